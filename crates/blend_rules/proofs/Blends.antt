@@ -1,0 +1,55 @@
+-- The laws of blends.
+use Rattle.std.proofs.Common.{◌≡◌, ℕ, ap, ◌∙◌}
+use Rattle.std.proofs.Math.Nat.{min-le_left}
+use Rattle.blend_rules.specs.declared.colour.Px.{Px}
+use Rattle.blend_rules.specs.Colour.{IsPremultiplied, scaled, blended, source_over, alpha_sum, mode_value}
+use Rattle.blend_rules.specs.Laws.{BlendIsPremultiplied, ClearSourceLeaves, ClearBackdropShows, OpaqueCovers, NormalNeedsNoLimit}
+use Rattle.blend_rules.proofs.Products.{product-mono}
+use Rattle.blend_rules.proofs.Channels.{alpha_sum-clear_source, alpha_sum-clear_backdrop, blended_channel-clear_source, blended_channel-clear_backdrop, blended_channel-opaque, blended_channel-normal, alpha_sum-rest, alpha_sum-opaque}
+
+-- colours of equal bytes are equal
+pub same_bytes : (p q : Px) → p.b ≡ q.b → p.g ≡ q.g → p.r ≡ q.r → p.a ≡ q.a → p ≡ q
+same_bytes p q eb eg er ea = ap (λ (x : ℕ). let y : Px = record { b = x; g = p.g; r = p.r; a = p.a } in y) eb
+    ∙ ap (λ (x : ℕ). let y : Px = record { b = q.b; g = x; r = p.r; a = p.a } in y) eg
+    ∙ ap (λ (x : ℕ). let y : Px = record { b = q.b; g = q.g; r = x; a = p.a } in y) er
+    ∙ ap (λ (x : ℕ). let y : Px = record { b = q.b; g = q.g; r = q.r; a = x } in y) ea
+
+pub blend_is_premultiplied : BlendIsPremultiplied
+unfolding blended
+blend_is_premultiplied m s d = record {
+  blue = min-le_left (alpha_sum s.a d.a) (mode_value m s.a d.a s.b d.b);
+  green = min-le_left (alpha_sum s.a d.a) (mode_value m s.a d.a s.g d.g);
+  red = min-le_left (alpha_sum s.a d.a) (mode_value m s.a d.a s.r d.r);
+}
+
+pub clear_source_leaves : ClearSourceLeaves
+unfolding blended
+clear_source_leaves m d h k = same_bytes _ d
+    (blended_channel-clear_source m d.a d.b h.blue k) (blended_channel-clear_source m d.a d.g h.green k)
+    (blended_channel-clear_source m d.a d.r h.red k) (alpha_sum-clear_source d.a k)
+
+pub clear_backdrop_shows : ClearBackdropShows
+unfolding blended
+clear_backdrop_shows m s h k = same_bytes _ s
+    (blended_channel-clear_backdrop m s.a s.b h.blue k) (blended_channel-clear_backdrop m s.a s.g h.green k)
+    (blended_channel-clear_backdrop m s.a s.r h.red k) (alpha_sum-clear_backdrop s.a)
+
+pub normal_needs_no_limit : NormalNeedsNoLimit
+unfolding blended source_over
+normal_needs_no_limit s d p q k l = same_bytes _ _
+    (blended_channel-normal s.a d.a s.b d.b p.blue q.blue k) (blended_channel-normal s.a d.a s.g d.g p.green q.green k)
+    (blended_channel-normal s.a d.a s.r d.r p.red q.red k) (alpha_sum-rest s.a d.a k)
+
+pub opaque_covers : OpaqueCovers
+unfolding blended
+opaque_covers s d p q e = same_bytes _ s
+    (blended_channel-opaque s.a d.a s.b d.b e p.blue) (blended_channel-opaque s.a d.a s.g d.g e p.green)
+    (blended_channel-opaque s.a d.a s.r d.r e p.red) (alpha_sum-opaque s.a d.a e)
+
+pub scaled_is_premultiplied : (p : Px) (c : ℕ) → IsPremultiplied p → IsPremultiplied (scaled p c)
+unfolding scaled
+scaled_is_premultiplied p c h = record {
+  blue = product-mono p.b p.a c h.blue;
+  green = product-mono p.g p.a c h.green;
+  red = product-mono p.r p.a c h.red;
+}

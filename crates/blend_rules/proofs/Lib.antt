@@ -1,0 +1,4 @@
+pub mod Products
+pub mod Channels
+pub mod Blends
+pub mod Rows

@@ -1,0 +1,29 @@
+ghost use Rattle.std.specs.Prelude.{◌↔◌, IsTrue};
+
+/// A premultiplied colour: blue, green, red and alpha, each 0 to 255.
+#[derive(Clone, Copy, Debug, PartialEq, Eq, Hash)]
+pub struct Px {
+    pub b: u8,
+    pub g: u8,
+    pub r: u8,
+    pub a: u8,
+}
+
+impl Px {
+    ghost use Rattle.blend_rules.specs.Colour.{IsPremultiplied};
+
+    /// The colour without any light or cover.
+    pub const CLEAR: Px = Px {
+        b: 0,
+        g: 0,
+        r: 0,
+        a: 0,
+    };
+
+    /// Whether no colour byte exceeds alpha.
+    pub fn is_premultiplied(self) -> bool
+        ensures { IsTrue result ↔ IsPremultiplied self }
+    {
+        self.b <= self.a && self.g <= self.a && self.r <= self.a
+    }
+}

@@ -1,0 +1,14 @@
+//! Colours of eight-bit premultiplied channels, and the rules by which they are scaled and blended.
+#![tactic(auto)]
+
+mod colour;
+mod laws;
+mod mode;
+mod rules;
+#[cfg(test)]
+mod tests;
+
+pub use colour::Px;
+pub use laws::blend_laws;
+pub use mode::Mode;
+pub use rules::{blend, mul, scale};

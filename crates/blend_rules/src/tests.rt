@@ -1,0 +1,52 @@
+use super::*;
+use std::test::Fail;
+
+#[test]
+fn products(rt: HostRuntime) {
+    assert_eq!(rt; mul(1, 128), 0);
+    assert_eq!(rt; mul(128, 1), 1);
+    assert_eq!(rt; mul(128, 127), 64);
+    assert_eq!(rt; mul(127, 128), 63);
+}
+
+#[test]
+fn blends_and_scales(rt: HostRuntime) -> Result<(), Fail> {
+    let half = Px {
+        b: 0,
+        g: 0,
+        r: 128,
+        a: 128,
+    };
+    let white = Px {
+        b: 255,
+        g: 255,
+        r: 255,
+        a: 255,
+    };
+    assert!(rt; half.is_premultiplied());
+    let mode = Mode::from_byte(0).ok_or("no mode")?;
+    assert_eq!(rt; mode, Mode::Normal);
+    assert_eq!(rt; Mode::from_byte(9), None);
+    assert_eq!(rt;
+        blend(Mode::Normal, half, white),
+        Px {
+            b: 127,
+            g: 127,
+            r: 255,
+            a: 255
+        }
+    );
+    assert_eq!(rt;
+        scale(white, 64),
+        Px {
+            b: 64,
+            g: 64,
+            r: 64,
+            a: 64
+        }
+    );
+    assert_eq!(rt; scale(half, 255), half);
+    assert_eq!(rt; blend(Mode::Normal, Px::CLEAR, half), half);
+    blend_laws();
+    Ok(())
+}

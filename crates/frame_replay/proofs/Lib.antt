@@ -1,0 +1,7 @@
+pub mod Taken
+pub mod Reading
+pub mod Blocks
+pub mod Frames
+pub mod Steps
+pub mod Opening
+pub mod Words

@@ -1,0 +1,141 @@
+-- The magic, and what follows it.
+use Rattle.std.proofs.Common.{◌≡◌, ℕ, ◌<◌, List, [], ◌∷◌, ◌++◌, Bool, true, false, ◌&&◌, Option, None, Result, Ok, Err, length, nat_eq, refl, sym, ap, ◌∙◌, arith, append_assoc, append-nil}
+use Rattle.std.specs.Cmp.Lexicographic.{pointwise}
+use Rattle.std.proofs.lemmas.List.{take_at, drop_at}
+use Rattle.frame_replay.specs.Framing.{has_magic, input_magic, output_magic, body_framing, most_transactions, framing, payloads_of, after_closing}
+use Rattle.frame_replay.specs.Scene.{start_scene}
+use Rattle.frame_replay.specs.Answers.{answers, records_of, closing_mark}
+use Rattle.frame_replay.specs.Taking.{Gets, ReadCause}
+use Rattle.frame_replay.specs.Steps.{Appended, IsFront, body_answers, all_but_last, Ended}
+use Rattle.frame_replay.specs.Outcome.{Opens, settled, settled_for, IsPart, Replayed, Outcome, status_of}
+use Rattle.frame_replay.specs.declared.status.Stop.{Stop}
+use Rattle.frame_replay.specs.declared.status.Stop.TheVariants.{Usage, BrokenInput, ReadFailed, WriteFailed, OutOfMemory}
+use Rattle.frame_replay.proofs.Steps.{appended_more, nothing_written, front_of_front, front_extended, framing_empty}
+
+-- four bytes tell whether they are the magic, whatever follows
+pub magic_is : (t tail : List ℕ) → length t ≡ 4 → has_magic (t ++ tail) ≡ pointwise nat_eq input_magic t
+unfolding has_magic
+magic_is t tail len = ap (pointwise nat_eq input_magic) (take_at t tail 4 len)
+
+and_false : (b : Bool) → b && false ≡ false
+and_false true = refl
+and_false false = refl
+
+-- fewer don't
+pub magic_short : (t : List ℕ) → length t < 4 → has_magic t ≡ false
+unfolding has_magic
+magic_short [] few = refl
+magic_short (a ∷ []) few = and_false (nat_eq 87 a)
+magic_short (a ∷ b ∷ []) few = ap (λ x. nat_eq 87 a && x) (and_false (nat_eq 82 b)) ∙ and_false (nat_eq 87 a)
+magic_short (a ∷ b ∷ c ∷ []) few =
+    ap (λ x. nat_eq 87 a && (nat_eq 82 b && x)) (and_false (nat_eq 84 c)) ∙ ap (λ x. nat_eq 87 a && x) (and_false (nat_eq 82 b)) ∙ and_false (nat_eq 87 a)
+magic_short (a ∷ b ∷ c ∷ d ∷ t) few = absurd (omega (arith, few))
+
+-- too few bytes
+pub opens_short : (e : Stop) (new t r : List ℕ) → Gets {X = Unit {0}} (Err e) 4 [] new t r → Opens (Err e) t r
+opens_short BrokenInput new t r q =
+    (magic_short t q.0, ap (λ x. has_magic (t ++ x)) q.1 ∙ ap has_magic (append-nil t) ∙ magic_short t q.0)
+opens_short Usage new t r q = magic_short t q
+opens_short ReadFailed new t r q = magic_short t q
+opens_short WriteFailed new t r q = magic_short t q
+opens_short OutOfMemory new t r q = magic_short t q
+
+module _ (t u : List ℕ) (len : length t ≡ 4) (is : has_magic (t ++ u) ≡ true) where
+  -- the records behind the magic
+  body_of : body_framing (t ++ u) ≡ framing 4294967295 u
+  unfolding body_framing most_transactions
+  body_of = ap (framing 4294967295) (drop_at t u 4 len)
+
+  pub payloads_behind : payloads_of (t ++ u) ≡ (framing 4294967295 u).payloads
+  payloads_behind = rw (is, body_of) refl
+
+  pub after_behind : after_closing (t ++ u) ≡ (framing 4294967295 u).after
+  after_behind = rw (is, body_of) refl
+
+  pub answers_behind : answers (t ++ u) ≡ output_magic ++ body_answers 4294967295 start_scene u
+  unfolding answers
+  answers_behind = rw (is, body_of) refl
+
+-- without the magic nothing is answered, and the framing is broken
+answers_none : (input : List ℕ) → has_magic input ≡ false → answers input ≡ []
+unfolding answers
+answers_none input wrong = rw wrong refl
+
+after_none : (input : List ℕ) → has_magic input ≡ false → after_closing input ≡ None
+after_none input wrong = rw wrong refl
+
+settled_none : (input : List ℕ) → has_magic input ≡ false → settled input ≡ []
+settled_none input wrong = rw wrong refl
+
+-- The magic isn't there.
+pub replayed_none : (source_old source_new : ℕ) (e : Stop) (w : Option (List ℕ)) (t r : List ℕ) → ReadCause source_old source_new e → Opens (Err e) t r → Replayed w w (Err e) t r
+replayed_none a b Usage w t r cause h = cause
+replayed_none a b BrokenInput w t r cause h = record {
+  wrote = rw (answers_none t h.0) (nothing_written w);
+  all = answers_none (t ++ r) h.1 ∙ sym (answers_none t h.0);
+  broken = after_none (t ++ r) h.1;
+}
+replayed_none a b ReadFailed w t r cause h =
+    record { wrote = rw (answers_none t h) (nothing_written w); unclosed = after_none t h }
+replayed_none a b WriteFailed w t r cause h = absurd cause
+replayed_none a b OutOfMemory w t r cause h =
+    record { out = []; wrote = nothing_written w; front = (answers t, refl); has = rw (settled_none t h) ([], refl) }
+
+-- The magic alone was read, and the answer's wasn't written whole.
+pub replayed_magic : (old new : Option (List ℕ)) (out t r : List ℕ) → IsFront out output_magic → Appended old new out → Opens (Ok tt) t r → Replayed old new (Err WriteFailed) t r
+replayed_magic old new out t r front wrote h =
+    let none = framing_empty 4294967295 in
+    let all : answers t ≡ output_magic ++ [] = ap answers (sym (append-nil t)) ∙ answers_behind t [] h.0 (h.1 []) ∙ ap (λ f. output_magic ++ (records_of f.payloads start_scene ++ closing_mark f.after)) none in
+    let settled_is : settled t ≡ [] = ap settled (sym (append-nil t)) ∙ ap settled_for (payloads_behind t [] h.0 (h.1 []) ∙ ap (λ f. f.payloads) none) in
+    record { out = out; wrote = wrote; front = rw all (front_extended out output_magic [] front); has = rw settled_is (out, refl) }
+
+-- the records that are surely written stand behind the magic
+settled_front : (ps : List (List ℕ)) (o : List ℕ) → IsFront (records_of (all_but_last ps) start_scene) o → IsFront (settled_for ps) (output_magic ++ o)
+settled_front [] o h = (output_magic ++ o, refl)
+settled_front (p ∷ ps) o h = front_of_front output_magic (records_of (all_but_last (p ∷ ps)) start_scene) o h
+
+module _ (w0 w1 w2 : Option (List ℕ)) (t u s : List ℕ) (first : Appended w0 w1 output_magic) (len : length t ≡ 4) (is : (tail : List ℕ) → has_magic (t ++ tail) ≡ true) where
+  behind_all : answers (t ++ u) ≡ output_magic ++ body_answers 4294967295 start_scene u
+  behind_all = answers_behind t u len (is u)
+
+  wrote_behind : Appended w1 w2 (body_answers 4294967295 start_scene u) → Appended w0 w2 (answers (t ++ u))
+  wrote_behind w = rw behind_all (appended_more w0 w1 w2 output_magic (body_answers 4294967295 start_scene u) first w)
+
+  input_all : body_answers 4294967295 start_scene (u ++ s) ≡ body_answers 4294967295 start_scene u → answers ((t ++ u) ++ s) ≡ answers (t ++ u)
+  input_all e = ap answers (append_assoc t u s) ∙ answers_behind t (u ++ s) len (is (u ++ s)) ∙ ap (λ b. output_magic ++ b) e ∙ sym behind_all
+
+  input_after : after_closing ((t ++ u) ++ s) ≡ (framing 4294967295 (u ++ s)).after
+  input_after = ap after_closing (append_assoc t u s) ∙ after_behind t (u ++ s) len (is (u ++ s))
+
+  part_behind : ((out : List ℕ) × Appended w1 w2 out × IsFront out (body_answers 4294967295 start_scene u) × IsFront (records_of (all_but_last (framing 4294967295 u).payloads) start_scene) out) → IsPart w0 w2 (t ++ u)
+  part_behind h = record {
+    out = output_magic ++ h.0;
+    wrote = appended_more w0 w1 w2 output_magic h.0 first h.1;
+    front = rw behind_all (front_of_front output_magic h.0 (body_answers 4294967295 start_scene u) h.2);
+    has = rw (payloads_behind t u len (is u)) (settled_front (framing 4294967295 u).payloads h.0 h.3);
+  }
+
+  -- what the records behind the magic leave
+  pub replayed_behind : (ended : Result (Unit {0}) Stop) → Ended 4294967295 start_scene w1 w2 ended u s → Replayed w0 w2 ended (t ++ u) s
+  replayed_behind (Ok x) h =
+      record { wrote = wrote_behind h.0; all = input_all h.3; closed = after_behind t u len (is u) ∙ h.1; left = input_after ∙ h.2 }
+  replayed_behind (Err Usage) h = h
+  replayed_behind (Err BrokenInput) h =
+      record { wrote = wrote_behind h.0; all = input_all h.3; broken = input_after ∙ h.2 }
+  replayed_behind (Err ReadFailed) h =
+      record { wrote = wrote_behind h.0; unclosed = after_behind t u len (is u) ∙ h.1 }
+  replayed_behind (Err WriteFailed) h = part_behind h
+  replayed_behind (Err OutOfMemory) h = part_behind h
+
+-- what a replay leaves, by its status
+pub outcome_of : (old new : Option (List ℕ)) (ended : Result (Unit {0}) Stop) (t r : List ℕ) → Replayed old new ended t r → Outcome (status_of ended) old new t r
+outcome_of old new (Ok x) t r h = record { done = λ e. h; broken_input = λ e. absurd (omega (arith, e)); read_failed = λ e. absurd (omega (arith, e)); write_failed = λ e. absurd (omega (arith, e)); out_of_memory = λ e. absurd (omega (arith, e)) }
+outcome_of old new (Err Usage) t r h = absurd h
+outcome_of old new (Err BrokenInput) t r h = record { done = λ e. absurd (omega (arith, e)); broken_input = λ e. h; read_failed = λ e. absurd (omega (arith, e)); write_failed = λ e. absurd (omega (arith, e)); out_of_memory = λ e. absurd (omega (arith, e)) }
+outcome_of old new (Err ReadFailed) t r h = record { done = λ e. absurd (omega (arith, e)); broken_input = λ e. absurd (omega (arith, e)); read_failed = λ e. h; write_failed = λ e. absurd (omega (arith, e)); out_of_memory = λ e. absurd (omega (arith, e)) }
+outcome_of old new (Err WriteFailed) t r h = record { done = λ e. absurd (omega (arith, e)); broken_input = λ e. absurd (omega (arith, e)); read_failed = λ e. absurd (omega (arith, e)); write_failed = λ e. h; out_of_memory = λ e. absurd (omega (arith, e)) }
+outcome_of old new (Err OutOfMemory) t r h = record { done = λ e. absurd (omega (arith, e)); broken_input = λ e. absurd (omega (arith, e)); read_failed = λ e. absurd (omega (arith, e)); write_failed = λ e. absurd (omega (arith, e)); out_of_memory = λ e. h }
+
+-- a run for no words of a command
+pub outcome_usage : (old new : Option (List ℕ)) (t r : List ℕ) → Outcome 1 old new t r
+outcome_usage old new t r = record { done = λ e. absurd (omega (arith, e)); broken_input = λ e. absurd (omega (arith, e)); read_failed = λ e. absurd (omega (arith, e)); write_failed = λ e. absurd (omega (arith, e)); out_of_memory = λ e. absurd (omega (arith, e)) }

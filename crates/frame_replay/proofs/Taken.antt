@@ -1,0 +1,139 @@
+-- How takings follow one another.
+use Rattle.std.proofs.Common.{◌≡◌, ◌≢◌, ℕ, ◌+◌, ◌≤◌, ◌<◌, List, [], ◌∷◌, ◌++◌, Bool, true, false, Option, Some, None, IfSome, Result, Ok, Err, length, take, drop, refl, sym, ap, ◌∙◌, arith, append_assoc, append-nil, length-append, length-take-le, take-append-drop}
+use Rattle.std.proofs.lemmas.List.{take_at, drop_at}
+use Rattle.std.proofs.lemmas.Bool.Decides.{nat_tests}
+use Rattle.wr_io.specs.Ends.{LeavesSome}
+use Rattle.frame_replay.specs.Framing.{Front, transaction, closing, broken, front_of, sized_front, payload_front}
+use Rattle.frame_replay.specs.Taking.{Took, Gets, GetsTag, Decides}
+use Rattle.frame_replay.specs.declared.status.Stop.{Stop}
+use Rattle.frame_replay.specs.declared.status.Stop.TheVariants.{Usage, BrokenInput, ReadFailed, WriteFailed, OutOfMemory}
+
+-- A failed read took fewer bytes than asked.
+pub failed_read : (start new : Option (List ℕ)) (n : ℕ) (out : List ℕ) → IfSome start (λ b. LeavesSome b new n) → IfSome start (λ b. Took b new (Gets {X = Unit {0}} (Err ReadFailed) n [] out))
+failed_read None new n out h = tt
+failed_read (Some b) new n out h =
+    let few : h.taken < n = h.fewer in
+    let len : length (take h.taken b) ≡ h.taken = length-take-le h.taken b h.within in
+    record { taken = take h.taken b; rest = drop h.taken b; split = sym (take-append-drop h.taken b); now = h.rest; fact = omega arith }
+
+-- One taking after another is a taking.
+pub joined : (start mid new : Option (List ℕ)) (P Q R : List ℕ → List ℕ → Type 0)
+    → ((t r u s : List ℕ) → r ≡ u ++ s → P t r → Q u s → R (t ++ u) s)
+    → IfSome start (λ b. Took b mid P) → IfSome mid (λ b. Took b new Q) → IfSome start (λ b. Took b new R)
+joined None mid new P Q R step first second = tt
+joined (Some b) mid new P Q R step first second =
+    let q = rw first.now at second in
+    record {
+      taken = first.taken ++ q.taken;
+      rest = q.rest;
+      split = first.split ∙ ap (λ r. first.taken ++ r) q.split ∙ sym (append_assoc first.taken q.taken q.rest);
+      now = q.now;
+      fact = step first.taken first.rest q.taken q.rest q.split first.fact q.fact;
+    }
+
+-- A taking of which less is said.
+pub weaker : (start new : Option (List ℕ)) (P Q : List ℕ → List ℕ → Type 0) → ((t r : List ℕ) → P t r → Q t r)
+    → IfSome start (λ b. Took b new P) → IfSome start (λ b. Took b new Q)
+weaker None new P Q f h = tt
+weaker (Some b) new P Q f h =
+    record { taken = h.taken; rest = h.rest; split = h.split; now = h.now; fact = f h.taken h.rest h.fact }
+
+-- nothing was taken
+pub nothing_taken : (start : Option (List ℕ)) (P : List ℕ → List ℕ → Type 0) → ((r : List ℕ) → P [] r) → IfSome start (λ b. Took b start P)
+nothing_taken None P f = tt
+nothing_taken (Some b) P f = record { taken = []; rest = b; split = refl; now = refl; fact = f b }
+
+-- a whole payload stands in front
+pub payload_whole : (n : ℕ) (t tail : List ℕ) → n ≤ 67108864 → length t ≡ n → payload_front n (t ++ tail) ≡ transaction t tail
+payload_whole n t tail limit len =
+    let long : n ≤ length (t ++ tail) = omega (arith, length-append t tail) in
+    let e = take_at t tail n len in
+    let f = drop_at t tail n len in
+    grind (arith, nat_tests)
+
+-- less than a payload doesn't
+pub payload_short : (n : ℕ) (t : List ℕ) → length t < n → payload_front n t ≡ broken
+payload_short n t short = grind (arith, nat_tests)
+
+-- what was taken after part of a payload, and is no whole payload with it
+pub payload_cut : (e : Stop) (n count : ℕ) (found : Unit {0} → List ℕ → Front) (before now t r u s : List ℕ) → length before + count ≤ n → r ≡ u ++ s → before ≡ t
+    → Gets {X = Unit {0}} (Err e) count before now u s → Decides (payload_front n) found (Err e) (t ++ u) s
+payload_cut BrokenInput n count found before now t r u s room split same got =
+    let few : length u < count = got.0 in
+    let len = ap length same in
+    let short : length (t ++ u) < n = omega (arith, length-append t u) in
+    let e = payload_short n (t ++ u) short in
+    (e, ap (λ x. payload_front n ((t ++ u) ++ x)) got.1 ∙ ap (payload_front n) (append-nil (t ++ u)) ∙ e)
+payload_cut Usage n count found before now t r u s room split same few =
+    let len = ap length same in
+    payload_short n (t ++ u) (omega (arith, length-append t u))
+payload_cut ReadFailed n count found before now t r u s room split same few =
+    let len = ap length same in
+    payload_short n (t ++ u) (omega (arith, length-append t u))
+payload_cut WriteFailed n count found before now t r u s room split same few =
+    let len = ap length same in
+    payload_short n (t ++ u) (omega (arith, length-append t u))
+payload_cut OutOfMemory n count found before now t r u s room split same few =
+    let len = ap length same in
+    payload_short n (t ++ u) (omega (arith, length-append t u))
+
+-- A part that stands in front leaves the rest to decide.
+pub then_decides : {X : Type 0} (f g : List ℕ → Front) (found : X → List ℕ → Front) (result : Result X Stop) (t r u s : List ℕ) → r ≡ u ++ s
+    → ((tail : List ℕ) → f (t ++ tail) ≡ g tail) → Decides g found result u s → Decides f found result (t ++ u) s
+then_decides f g found (Ok x) t r u s split h q = λ tail. ap f (append_assoc t u tail) ∙ h (u ++ tail) ∙ q tail
+then_decides f g found (Err BrokenInput) t r u s split h q =
+    (h u ∙ q.0, ap f (append_assoc t u s) ∙ h (u ++ s) ∙ q.1)
+then_decides f g found (Err Usage) t r u s split h q = h u ∙ q
+then_decides f g found (Err ReadFailed) t r u s split h q = h u ∙ q
+then_decides f g found (Err WriteFailed) t r u s split h q = h u ∙ q
+then_decides f g found (Err OutOfMemory) t r u s split h q = h u ∙ q
+
+-- An error decides the same of any kind of answer.
+pub same_error : {X Y : Type 0} (f : List ℕ → Front) (found : X → List ℕ → Front) (other : Y → List ℕ → Front) (e : Stop) (t r : List ℕ)
+    → Decides f found (Err e) t r → Decides f other (Err e) t r
+same_error f found other BrokenInput t r q = q
+same_error f found other Usage t r q = q
+same_error f found other ReadFailed t r q = q
+same_error f found other WriteFailed t r q = q
+same_error f found other OutOfMemory t r q = q
+
+-- no tag, no record
+pub no_tag : {X : Type 0} (may_stand : Bool) (found : X → List ℕ → Front) (e : Stop) (t r : List ℕ) → GetsTag (Err e) t r → Decides (front_of may_stand) found (Err e) t r
+unfolding front_of
+no_tag may_stand found BrokenInput t r q = (ap (front_of may_stand) q.0, ap (front_of may_stand) (ap (λ x. x ++ r) q.0 ∙ q.1))
+no_tag may_stand found Usage t r q = ap (front_of may_stand) q
+no_tag may_stand found ReadFailed t r q = ap (front_of may_stand) q
+no_tag may_stand found WriteFailed t r q = ap (front_of may_stand) q
+no_tag may_stand found OutOfMemory t r q = ap (front_of may_stand) q
+
+-- fewer bytes than one
+pub no_byte : (e : Stop) (new t r : List ℕ) → Gets {X = Unit {0}} (Err e) 1 [] new t r → GetsTag (Err e) t r
+no_byte BrokenInput new [] r q = (refl, q.1)
+no_byte BrokenInput new (x ∷ t) r q = absurd (omega (arith, q.0))
+no_byte Usage new [] r q = refl
+no_byte Usage new (x ∷ t) r q = absurd (omega (arith, q))
+no_byte ReadFailed new [] r q = refl
+no_byte ReadFailed new (x ∷ t) r q = absurd (omega (arith, q))
+no_byte WriteFailed new [] r q = refl
+no_byte WriteFailed new (x ∷ t) r q = absurd (omega (arith, q))
+no_byte OutOfMemory new [] r q = refl
+no_byte OutOfMemory new (x ∷ t) r q = absurd (omega (arith, q))
+
+-- the closing byte
+pub closing_tag : (may_stand : Bool) (t tail : List ℕ) → t ≡ 90 ∷ [] → front_of may_stand (t ++ tail) ≡ closing tail
+unfolding front_of
+closing_tag may_stand t tail e = ap (λ x. front_of may_stand (x ++ tail)) e
+
+-- the tag of a transaction, where one may stand
+pub transaction_tag : (may_stand : Bool) (t tail : List ℕ) → t ≡ 84 ∷ [] → may_stand ≡ true → front_of may_stand (t ++ tail) ≡ sized_front tail
+unfolding front_of
+transaction_tag may_stand t tail e may = ap (λ x. front_of may_stand (x ++ tail)) e ∙ ap (λ b. front_of b (84 ∷ tail)) may
+
+-- a byte that begins no record that may stand
+other_byte : (may_stand : Bool) (x : ℕ) (tail : List ℕ) → x ≢ 90 → (x ≡ 84 → may_stand ≡ false) → front_of may_stand (x ∷ tail) ≡ broken
+unfolding front_of
+other_byte may_stand x tail not_z not_t = grind (arith, nat_tests)
+
+-- another tag, or a transaction where none may stand
+pub other_tag : (may_stand : Bool) (x : ℕ) (t tail : List ℕ) → t ≡ x ∷ [] → x ≢ 90 → (x ≡ 84 → may_stand ≡ false) → front_of may_stand (t ++ tail) ≡ broken
+other_tag may_stand x t tail e not_z not_t = ap (λ y. front_of may_stand (y ++ tail)) e ∙ other_byte may_stand x tail not_z not_t

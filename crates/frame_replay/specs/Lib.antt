@@ -1,0 +1,11 @@
+pub mod Framing
+pub mod Taking
+pub mod Records
+pub mod Listed
+pub mod Scene
+pub mod FirstForm
+pub mod Painting
+pub mod Blocks
+pub mod Answers
+pub mod Steps
+pub mod Outcome

@@ -1,0 +1,49 @@
+-- What reading takes from an input, whether it succeeds or stops.
+use Rattle.std.specs.Prelude.{◌≡◌, ℕ, ◌<◌, List, [], ◌∷◌, ◌++◌, length, Option, Some, Result, Ok, Err}
+use Rattle.wr_io.specs.Ends.{HasFault}
+use Rattle.frame_replay.specs.Framing.{Front, broken}
+use Rattle.frame_replay.specs.declared.status.Stop.{Stop}
+use Rattle.frame_replay.specs.declared.status.Stop.TheVariants.{Usage, BrokenInput, ReadFailed, WriteFailed, OutOfMemory}
+
+-- The bytes that were left are those that were taken and those that are left now, and this holds of the two.
+pub record Took (bytes : List ℕ) (left : Option (List ℕ)) (P : List ℕ → List ℕ → Type 0) : Type 0 where
+  pub taken : List ℕ
+  pub rest : List ℕ
+  pub split : bytes ≡ taken ++ rest
+  pub now : left ≡ Some rest
+  pub fact : P taken rest
+
+-- So many bytes were taken and put behind others, or fewer were, at the end of input where that is what stopped it.
+abbrev pub Gets : {X : Type 0} → Result X Stop → ℕ → List ℕ → List ℕ → List ℕ → List ℕ → Type 0
+Gets (Ok x) count old new taken rest = (length taken ≡ count) × (new ≡ old ++ taken)
+Gets (Err BrokenInput) count old new taken rest = (length taken < count) × (rest ≡ [])
+Gets (Err Usage) count old new taken rest = length taken < count
+Gets (Err ReadFailed) count old new taken rest = length taken < count
+Gets (Err WriteFailed) count old new taken rest = length taken < count
+Gets (Err OutOfMemory) count old new taken rest = length taken < count
+
+-- One byte was taken, or none, at the end of input where that is what stopped it.
+abbrev pub GetsTag : Result ℕ Stop → List ℕ → List ℕ → Type 0
+GetsTag (Ok tag) taken rest = taken ≡ tag ∷ []
+GetsTag (Err BrokenInput) taken rest = (taken ≡ []) × (rest ≡ [])
+GetsTag (Err Usage) taken rest = taken ≡ []
+GetsTag (Err ReadFailed) taken rest = taken ≡ []
+GetsTag (Err WriteFailed) taken rest = taken ≡ []
+GetsTag (Err OutOfMemory) taken rest = taken ≡ []
+
+-- What was taken decides what stands in front, whatever follows, or nothing whole does: in what was taken, and in all where that is what stopped it.
+abbrev pub Decides : {X : Type 0} → (List ℕ → Front) → (X → List ℕ → Front) → Result X Stop → List ℕ → List ℕ → Type 0
+Decides front found (Ok x) taken rest = (tail : List ℕ) → front (taken ++ tail) ≡ found x tail
+Decides front found (Err BrokenInput) taken rest = (front taken ≡ broken) × (front (taken ++ rest) ≡ broken)
+Decides front found (Err Usage) taken rest = front taken ≡ broken
+Decides front found (Err ReadFailed) taken rest = front taken ≡ broken
+Decides front found (Err WriteFailed) taken rest = front taken ≡ broken
+Decides front found (Err OutOfMemory) taken rest = front taken ≡ broken
+
+-- A failed read comes by a fault of the source, and reading stops for no other end.
+abbrev pub ReadCause : ℕ → ℕ → Stop → Type 0
+ReadCause old new BrokenInput = Unit {0}
+ReadCause old new ReadFailed = HasFault old new
+ReadCause old new OutOfMemory = Unit {0}
+ReadCause old new Usage = ⊥
+ReadCause old new WriteFailed = ⊥

@@ -1,0 +1,64 @@
+//! Whole runs over memory: worked files, their answers, statuses and notes.
+
+use super::run;
+use std::test::Fail;
+use wr_io::{MemSink, MemSource};
+
+mod causes;
+mod files;
+mod frames;
+
+/// What a run left.
+#[derive(Drop)]
+struct Ran {
+    status: u8,
+    out: Vec<u8>,
+    note: Vec<u8>,
+    left: usize,
+}
+
+/// How the ends of a run behave: at most so many bytes a call, and failures at these calls.
+#[derive(Clone, Copy)]
+struct Ends<'a> {
+    most: usize,
+    room: usize,
+    source_fails: &'a [u64],
+    sink_fails: &'a [u64],
+    notes_fail: &'a [u64],
+}
+
+/// Ends that never fail.
+const CALM: Ends<'static> = Ends {
+    most: 1_000_000,
+    room: 4096,
+    source_fails: &[],
+    sink_fails: &[],
+    notes_fail: &[],
+};
+
+/// A run with these words over an input.
+fn ran_over(rt: &HostRuntime, words: &[&str], input: &[u8], ends: &Ends<'_>) -> Result<Ran, Fail> {
+    let most = ends.most.max(1);
+    let mut given = Vec::new(rt.alloc());
+    for word in words {
+        given.push(String::from_str(rt.alloc(), word)?)?;
+    }
+    let fails = ends.source_fails.to_vec(rt.alloc())?;
+    let mut source = MemSource::new(input.to_vec(rt.alloc())?, most, fails);
+    let room = vec![in rt.alloc(); 0; ends.room]?;
+    let mut sink = MemSink::new(room, most, ends.sink_fails.to_vec(rt.alloc())?);
+    let room = vec![in rt.alloc(); 0; 256]?;
+    let mut notes = MemSink::new(room, most, ends.notes_fail.to_vec(rt.alloc())?);
+    let status = run(rt.alloc(), &given, &mut source, &mut sink, &mut notes);
+    Ok(Ran {
+        status,
+        out: sink.written().to_vec(rt.alloc())?,
+        note: notes.written().to_vec(rt.alloc())?,
+        left: source.left().len(),
+    })
+}
+
+/// A run of the command over ends that never fail.
+fn replayed(rt: &HostRuntime, input: &[u8]) -> Result<Ran, Fail> {
+    ran_over(rt, &["replay"], input, &CALM)
+}

@@ -1,0 +1,36 @@
+-- What calls on sources and sinks do, where the bytes are told.
+use Rattle.std.specs.Prelude.{◌≡◌, ◌≢◌, ℕ, ◌<◌, ◌≤◌, List, [], ◌++◌, length, take, drop, min, Option, Some}
+
+-- the count of faults rose, or stands at the last value of a u64
+abbrev pub HasFault : ℕ → ℕ → Type 0
+HasFault old new = new ≢ 18446744073709551615 → old < new
+
+-- n bytes of those that were left now stand in front of out, and the others are left; none do, in an out with room, only where none was left
+pub record ReadsFrom (bytes : List ℕ) (new : Option (List ℕ)) (out : List ℕ) (n : ℕ) : Type 0 where
+  pub within : n ≤ length bytes
+  pub put : take n out ≡ take n bytes
+  pub rest : new ≡ Some (drop n bytes)
+  pub end : n ≡ 0 → 0 < length out → bytes ≡ []
+
+-- out is filled with the next bytes, as far as there are any
+pub record ReadsExactly (bytes : List ℕ) (new : Option (List ℕ)) (out : List ℕ) (n : ℕ) : Type 0 where
+  pub count : n ≡ min (length out) (length bytes)
+  pub put : take n out ≡ take n bytes
+  pub rest : new ≡ Some (drop n bytes)
+
+-- fewer bytes than asked were taken from the front, and the others are left
+pub record LeavesSome (bytes : List ℕ) (new : Option (List ℕ)) (asked : ℕ) : Type 0 where
+  pub taken : ℕ
+  pub fewer : taken < asked
+  pub within : taken ≤ length bytes
+  pub rest : new ≡ Some (drop taken bytes)
+
+-- the first n bytes of a piece were appended
+abbrev pub WritesPart : List ℕ → Option (List ℕ) → List ℕ → ℕ → Type 0
+WritesPart bytes new piece n = new ≡ Some (bytes ++ take n piece)
+
+-- fewer bytes than the piece has, from its front, were appended
+pub record WritesStrictPart (bytes : List ℕ) (new : Option (List ℕ)) (piece : List ℕ) : Type 0 where
+  pub count : ℕ
+  pub fewer : count < length piece
+  pub part : new ≡ Some (bytes ++ take count piece)

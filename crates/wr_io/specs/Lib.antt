@@ -1,0 +1,5 @@
+pub mod Codes
+pub mod Ends
+pub mod Memory
+pub mod Unread
+pub mod Reading

@@ -1,0 +1,6 @@
+-- What is left to read of some bytes, and its place.
+use Rattle.std.specs.Prelude.{ℕ, List}
+
+pub record Unread : Type 0 where
+  pub at : ℕ
+  pub bytes : List ℕ
