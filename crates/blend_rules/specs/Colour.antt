@@ -14,7 +14,7 @@ pub record IsPremultiplied (p : Px) : Type 0 where
 abbrev pub clear : Px
 clear = record { b = 0; g = 0; r = 0; a = 0 }
 
--- x times y of 255, rounded down
+-- x times y as a share of 255
 unfoldable pub product : ℕ → ℕ → ℕ
 product x y = (x * y + x) / 256
 

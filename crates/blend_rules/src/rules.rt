@@ -3,7 +3,8 @@ ghost use Rattle.blend_rules.specs.Colour.{product, IsPremultiplied, clear, scal
 
 use crate::{Mode, Px};
 
-/// `x` times `y` of 255, rounded down. It is not symmetric: `mul(1, 128)` is 0 and `mul(128, 1)` is 1.
+/// `floor((x * y + x) / 256)`: `x` times `y` of 255, nearly. It is not symmetric: `mul(1, 128)` is 0
+/// and `mul(128, 1)` is 1.
 #[inline(always)]
 #[tactic(auto, unfolding(crate::specs::Colour::product))]
 pub fn mul(x: u8, y: u8) -> u8

@@ -1,5 +1,6 @@
 pub mod Taken
 pub mod Reading
+pub mod Members
 pub mod Blocks
 pub mod Frames
 pub mod Steps

@@ -1,14 +1,15 @@
 -- What is written for an input.
-use Rattle.std.specs.Prelude.{ℕ, List, [], ◌∷◌, ◌++◌, Option, Some, None, if◌then◌else◌}
+use Rattle.std.specs.Prelude.{ℕ, List, [], ◌∷◌, ◌++◌, Option, Some, None, Result, Ok, Err, if◌then◌else◌}
 use Rattle.std.specs.List.{flat_map}
 use Rattle.std.specs.Int.{w16, w32, to_le_bytes}
 use Rattle.wr_io.specs.Codes.{code_number}
 use Rattle.wr_io.specs.declared.fault.Code.{Code}
-use Rattle.wr_io.specs.declared.fault.Code.TheVariants.{NotBuilt}
+use Rattle.wr_io.specs.declared.fault.Fault.{Fault}
 use Rattle.frame_replay.specs.Framing.{has_magic, payloads_of, after_closing, output_magic}
 use Rattle.frame_replay.specs.Listed.{Listed}
 use Rattle.frame_replay.specs.Scene.{start_scene, after_all}
-use Rattle.frame_replay.specs.FirstForm.{Asked, transaction_of}
+use Rattle.frame_replay.specs.FirstForm.{transaction_of}
+use Rattle.frame_replay.specs.Lists.{Granted, granted}
 use Rattle.frame_replay.specs.Painting.{row_by_row, pixel_at, colour_bytes}
 use Rattle.frame_replay.specs.declared.scene.Scene.{Scene}
 
@@ -27,21 +28,21 @@ frame_record scene =
     70 ∷ (to_le_bytes w16 scene.view.width ++ (to_le_bytes w16 scene.view.height ++ (drawn_lists scene.list
     ++ flat_map colour_bytes (row_by_row scene.view.width scene.view.height (pixel_at scene)))))
 
--- the record of a transaction: a refusal where it isn't of the form that is built, a frame where one is asked for, else that it is accepted
-abbrev pub record_for : Option Asked → Scene → List ℕ
-record_for None scene = refusal_record NotBuilt 0
-record_for (Some asked) scene = if asked.frame then frame_record (after_all asked.operations scene) else 65 ∷ []
+-- the record of a transaction: a refusal, a frame where one is asked for, or else that it is accepted
+abbrev pub record_for : Result Granted Fault → Scene → List ℕ
+record_for (Err fault) scene = refusal_record fault.code fault.at
+record_for (Ok t) scene = if t.frame then frame_record (after_all t.operations scene) else 65 ∷ []
 
 -- the scene after a transaction; a refused one leaves it
-abbrev pub scene_for : Option Asked → Scene → Scene
-scene_for None scene = scene
-scene_for (Some asked) scene = after_all asked.operations scene
+abbrev pub scene_for : Result Granted Fault → Scene → Scene
+scene_for (Err fault) scene = scene
+scene_for (Ok t) scene = after_all t.operations scene
 
 abbrev pub record_of : List ℕ → Scene → List ℕ
-record_of payload scene = record_for (transaction_of payload) scene
+record_of payload scene = record_for (granted (transaction_of payload)) scene
 
 abbrev pub next_scene : List ℕ → Scene → Scene
-next_scene payload scene = scene_for (transaction_of payload) scene
+next_scene payload scene = scene_for (granted (transaction_of payload)) scene
 
 -- a record for each payload, from a scene on
 abbrev pub records_of : List (List ℕ) → Scene → List ℕ

@@ -4,6 +4,8 @@ pub mod Records
 pub mod Listed
 pub mod Scene
 pub mod FirstForm
+pub mod Lists
+pub mod Moved
 pub mod Painting
 pub mod Blocks
 pub mod Answers

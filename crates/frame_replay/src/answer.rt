@@ -5,13 +5,13 @@ ghost use Rattle.std.specs.Int.{w16, w32, to_le_bytes};
 ghost use Rattle.frame_replay.specs.Answers.{drawn_lists, frame_record, refusal_record, record_of, next_scene};
 ghost use Rattle.frame_replay.specs.Scene.{after_all};
 
-use crate::first_form::{Transaction, Unanswered, read_transaction};
+use crate::lists::{Grant, grant_payload};
 use crate::paint::{paint, push_pixels};
 use crate::scene::{Operation, Scene};
 use blend_rules::Px;
 use byteorder::{ByteOrder, LittleEndian};
 use std::alloc::{AllocError, Global};
-use wr_io::{Code, Fault};
+use wr_io::{DecodeError, Fault};
 
 fn push_16(out: &mut Vec<u8>, number: u16) -> Result<(), AllocError>
     ensures { OnOk result (out.new.items ≡ out.old.items ++ to_le_bytes w16 number) }
@@ -79,14 +79,14 @@ fn apply_all(scene: &mut Scene, operations: Vec<Operation>)
 /// Appends the answer to a transaction, and applies it to the scene.
 fn push_answer(
     out: &mut Vec<u8>,
-    transaction: Transaction,
+    grant: Grant,
     scene: &mut Scene,
     block: &mut Vec<Px>,
 ) -> Result<(), AllocError>
-    ensures out { OnOk result (out.new.items ≡ out.old.items ++ (if transaction.frame then frame_record (after_all transaction.operations.items scene.old) else 65 ∷ [])) }
-    ensures scene { scene.new ≡ after_all transaction.operations.items scene.old }
+    ensures out { OnOk result (out.new.items ≡ out.old.items ++ (if grant.frame then frame_record (after_all grant.operations.items scene.old) else 65 ∷ [])) }
+    ensures scene { scene.new ≡ after_all grant.operations.items scene.old }
 {
-    let Transaction { frame, operations } = transaction;
+    let Grant { frame, operations } = grant;
     apply_all(scene, operations);
     if frame {
         return push_frame(out, scene, block);
@@ -96,7 +96,7 @@ fn push_answer(
 }
 
 /// Puts the record that answers a payload into `out`, and takes the scene to what follows. A payload
-/// that isn't of the form that is built today is refused, and leaves the scene.
+/// that is refused leaves the scene.
 pub(crate) fn answer(
     alloc: Global,
     payload: &[u8],
@@ -108,15 +108,9 @@ pub(crate) fn answer(
     ensures scene { OnOk result (scene.new ≡ next_scene payload.now scene.old) }
 {
     out.clear();
-    match read_transaction(alloc, payload) {
-        Ok(transaction) => push_answer(out, transaction, scene, block),
-        Err(Unanswered::NotBuilt) => push_refusal(
-            out,
-            Fault {
-                code: Code::NotBuilt,
-                at: 0,
-            },
-        ),
-        Err(Unanswered::NoMemory) => Err(AllocError),
+    match grant_payload(alloc, payload) {
+        Ok(grant) => push_answer(out, grant, scene, block),
+        Err(DecodeError::Fault(fault)) => push_refusal(out, fault),
+        Err(DecodeError::NoMemory) => Err(AllocError),
     }
 }

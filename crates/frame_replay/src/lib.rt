@@ -5,6 +5,7 @@ mod answer;
 mod command;
 mod first_form;
 mod input;
+mod lists;
 mod paint;
 mod replay;
 mod scene;

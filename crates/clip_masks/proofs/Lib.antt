@@ -1,0 +1,5 @@
+pub mod Bytes
+pub mod Chains
+pub mod Moves
+pub mod Points
+pub mod Rows

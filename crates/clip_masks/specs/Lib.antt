@@ -1,0 +1,4 @@
+pub mod Corners
+pub mod Coverage
+pub mod Outline
+pub mod Spans

@@ -1,0 +1,63 @@
+ghost use Rattle.std.specs.Prelude.{◌≡◌, ◌≤◌, ◌↔◌, IsTrue, pos, ℤ, ◌+ℤ◌, if◌then◌else◌, EachIndex, slice_index};
+ghost use Rattle.wr_geom.specs.Bounds.{IsInRange, holds, shifted};
+
+use super::Rounded;
+use super::share::share_of;
+use wr_geom::{Point, Radii};
+
+/// A shape that lets through what lies inside it, or with `out` what lies outside.
+#[derive(Clone, Copy, Debug, PartialEq, Eq, Hash)]
+pub struct Clip {
+    pub shape: Rounded,
+    pub out: bool,
+}
+
+/// The radii of a rectangle without round corners.
+const SQUARE: Radii = Radii {
+    tl: (0, 0),
+    tr: (0, 0),
+    br: (0, 0),
+    bl: (0, 0),
+};
+
+impl Clip {
+    ghost use Rattle.clip_masks.specs.Coverage.{coverage, IsRectClip, moved};
+
+    /// How much of the pixel (x, y) the clip lets through, of 255.
+    #[tactic(auto, unfolding(crate::specs::Coverage::coverage))]
+    pub fn cover(&self, x: i32, y: i32) -> u8
+        ensures { result ≡ coverage self.now x y }
+    {
+        let share = share_of(self.shape.samples(x, y));
+        if self.out { 255 - share } else { share }
+    }
+
+    /// Writes the cover of a row of pixels, which begins at (x0, y).
+    pub fn mask_row(&self, y: i32, x0: i32, out: &mut [u8])
+        ensures { EachIndex out.new (λ k. slice_index out.new k ≡ coverage self.now (x0 +ℤ pos k) y) }
+    {
+        out.fill(255);
+        self.scale_row(y, x0, out);
+    }
+
+    /// Whether it is a rectangle clip: of mode in, and all eight radii are 0. It covers 255 or 0.
+    pub fn is_rect(&self) -> bool
+        ensures value { IsTrue result ↔ IsRectClip self.now }
+        ensures covers { IsTrue result → (x y : ℤ)
+            → coverage self.now x y ≡ (if holds self.now.shape.rect x y then 255 else 0) }
+    {
+        !self.out && self.shape.radii() == SQUARE
+    }
+
+    /// Moved by whole pixels; the moved rectangle must be in range.
+    pub fn shift(&self, by: Point) -> Clip
+        requires { IsInRange (shifted self.now.shape.rect by) }
+        ensures value { result ≡ moved self.now by }
+        ensures covers { (x y : ℤ) → coverage result (x +ℤ by.x) (y +ℤ by.y) ≡ coverage self.now x y }
+    {
+        Clip {
+            shape: self.shape.shift(by),
+            out: self.out,
+        }
+    }
+}

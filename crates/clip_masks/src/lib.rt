@@ -1,0 +1,22 @@
+//! Rounded rectangles as clips: how much of each pixel a clip, or a chain of clips, covers.
+//!
+//! A pixel has sixteen sample points, and what a shape covers of it is the share of those that
+//! lie inside, of 255. Rows are filled, and only pixels within a corner's radii count samples.
+//! No call takes memory.
+#![tactic(auto)]
+
+mod chain;
+mod clip;
+mod corner;
+mod row;
+mod samples;
+mod shape;
+mod share;
+mod spans;
+
+pub use chain::{cover_row, cut};
+pub use clip::Clip;
+pub use shape::Rounded;
+
+#[cfg(test)]
+mod tests;

@@ -1,0 +1,14 @@
+pub mod Trees
+pub mod Modes
+pub mod Repeats
+pub mod Bytes
+pub mod Forms
+pub mod Inversions
+pub mod Followers
+pub mod Passing
+pub mod NextPart
+pub mod Lists
+pub mod Steps
+pub mod Writing
+pub mod Spellings
+pub mod TreeLaws

@@ -1,0 +1,15 @@
+pub mod Form
+pub mod Outcome
+pub mod Numbers
+pub mod Fields
+pub mod Listing
+pub mod Standing
+pub mod Parts
+pub mod Checks
+pub mod Tree
+pub mod Decoding
+pub mod Grammar
+pub mod Spelling
+pub mod Counts
+pub mod Trees
+pub mod Laws
