@@ -3,3 +3,4 @@ pub mod Ends
 pub mod Memory
 pub mod Unread
 pub mod Reading
+pub mod Standard

@@ -1,10 +1,11 @@
-//! Standard readers and writers as sources and sinks. They tell nothing of their bytes.
+//! Standard readers and writers as sources and sinks. They tell the bytes that the reader or the writer
+//! itself tells: over memory all of them, over standard input and output none.
 
-ghost use Rattle.std.specs.Prelude.{◌≡◌, None};
+ghost use Rattle.std.specs.Prelude.{◌≡◌};
+ghost use Rattle.wr_io.specs.Standard.{source_left, source_faults, sink_written, sink_faults, holds_reader, holds_writer};
 
 use crate::ends::{Failed, Sink, Source};
 use std::io::{Read, Write};
-use std::marker::Model;
 
 /// A reader of the standard library as a source. Each error counts as a fault.
 #[derive(Debug, Drop)]
@@ -13,27 +14,20 @@ pub struct StdSource<R> {
     faults: u64,
 }
 
-impl<R> Model for StdSource<R> {
-    ghost use Rattle.std.specs.Prelude.{ℕ, ◌<◌, ◌^◌};
-
-    ghost Value = { ℕ };
-
-    ghost view = { λ s. s.faults };
-}
-
 impl<R> StdSource<R> {
-    /// A contract sees the number of its faults alone, which begins at 0.
+    /// A source over the reader, with no fault so far.
     pub fn new(reader: R) -> StdSource<R>
-        ensures { result ≡ 0 }
+        ensures reader { holds_reader result ≡ reader }
+        ensures faults { source_faults result ≡ 0 }
     {
         StdSource { reader, faults: 0 }
     }
 }
 
 impl<R: Read> Source for StdSource<R> {
-    ghost left = { λ _. None };
+    ghost left = { source_left R.remaining };
 
-    ghost faults = { λ faults. faults };
+    ghost faults = { source_faults };
 
     fn read(&mut self, out: &mut [u8]) -> Result<usize, Failed> {
         match self.reader.read(out) {
@@ -54,27 +48,20 @@ pub struct StdSink<W> {
     faults: u64,
 }
 
-impl<W> Model for StdSink<W> {
-    ghost use Rattle.std.specs.Prelude.{ℕ};
-
-    ghost Value = { ℕ };
-
-    ghost view = { λ s. s.faults };
-}
-
 impl<W> StdSink<W> {
-    /// A contract sees the number of its faults alone, which begins at 0.
+    /// A sink over the writer, with no fault so far.
     pub fn new(writer: W) -> StdSink<W>
-        ensures { result ≡ 0 }
+        ensures writer { holds_writer result ≡ writer }
+        ensures faults { sink_faults result ≡ 0 }
     {
         StdSink { writer, faults: 0 }
     }
 }
 
 impl<W: Write> Sink for StdSink<W> {
-    ghost written = { λ _. None };
+    ghost written = { sink_written W.contents };
 
-    ghost faults = { λ faults. faults };
+    ghost faults = { sink_faults };
 
     fn write(&mut self, piece: &[u8]) -> Result<usize, Failed> {
         match self.writer.write(piece) {
