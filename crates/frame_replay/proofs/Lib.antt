@@ -3,6 +3,7 @@ pub mod Reading
 pub mod Members
 pub mod Blocks
 pub mod Frames
+pub mod Fronts
 pub mod Steps
 pub mod Opening
 pub mod Words

@@ -1,10 +1,10 @@
 -- How takings follow one another.
-use Rattle.std.proofs.Common.{◌≡◌, ◌≢◌, ℕ, ◌+◌, ◌≤◌, ◌<◌, List, [], ◌∷◌, ◌++◌, Bool, true, false, Option, Some, None, IfSome, Result, Ok, Err, length, take, drop, refl, sym, ap, ◌∙◌, arith, append_assoc, append-nil, length-append, length-take-le, take-append-drop}
+use Rattle.std.proofs.Common.{◌≡◌, ◌≢◌, ℕ, ◌+◌, ◌≤◌, ◌<◌, List, [], ◌∷◌, ◌++◌, Bool, true, false, Option, Some, None, IfSome, inl, inr, Result, Ok, Err, length, take, drop, refl, sym, ap, ◌∙◌, arith, append_assoc, append-nil, length-append, length-take-le, take-append-drop}
 use Rattle.std.proofs.lemmas.List.{take_at, drop_at}
 use Rattle.std.proofs.lemmas.Bool.Decides.{nat_tests}
 use Rattle.wr_io.specs.Ends.{LeavesSome}
 use Rattle.frame_replay.specs.Framing.{Front, transaction, closing, broken, front_of, sized_front, payload_front}
-use Rattle.frame_replay.specs.Taking.{Took, Gets, GetsTag, Decides}
+use Rattle.frame_replay.specs.Taking.{Took, Gets, GetsTag, StopsWithin, Decides}
 use Rattle.frame_replay.specs.declared.status.Stop.{Stop}
 use Rattle.frame_replay.specs.declared.status.Stop.TheVariants.{Usage, BrokenInput, ReadFailed, WriteFailed, OutOfMemory}
 
@@ -43,6 +43,16 @@ pub nothing_taken : (start : Option (List ℕ)) (P : List ℕ → List ℕ → T
 nothing_taken None P f = tt
 nothing_taken (Some b) P f = record { taken = []; rest = b; split = refl; now = refl; fact = f b }
 
+-- more may be taken
+pub stops_more : (few many : ℕ) (t r : List ℕ) → few ≤ many → StopsWithin few t r → StopsWithin many t r
+stops_more few many t r le (inl end) = inl end
+stops_more few many t r le (inr l) = inr (omega (arith, l))
+
+-- what was taken before counts too
+pub stops_behind : (few more : ℕ) (t u s : List ℕ) → length t ≤ few → StopsWithin more u s → StopsWithin (few + more) (t ++ u) s
+stops_behind few more t u s le (inl end) = inl end
+stops_behind few more t u s le (inr l) = inr (omega (arith, l, length-append t u))
+
 -- a whole payload stands in front
 pub payload_whole : (n : ℕ) (t tail : List ℕ) → n ≤ 67108864 → length t ≡ n → payload_front n (t ++ tail) ≡ transaction t tail
 payload_whole n t tail limit len =
@@ -57,13 +67,13 @@ payload_short n t short = grind (arith, nat_tests)
 
 -- what was taken after part of a payload, and is no whole payload with it
 pub payload_cut : (e : Stop) (n count : ℕ) (found : Unit {0} → List ℕ → Front) (before now t r u s : List ℕ) → length before + count ≤ n → r ≡ u ++ s → before ≡ t
-    → Gets {X = Unit {0}} (Err e) count before now u s → Decides (payload_front n) found (Err e) (t ++ u) s
+    → Gets {X = Unit {0}} (Err e) count before now u s → Decides 0 (payload_front n) found (Err e) (t ++ u) s
 payload_cut BrokenInput n count found before now t r u s room split same got =
     let few : length u < count = got.0 in
     let len = ap length same in
     let short : length (t ++ u) < n = omega (arith, length-append t u) in
     let e = payload_short n (t ++ u) short in
-    (e, ap (λ x. payload_front n ((t ++ u) ++ x)) got.1 ∙ ap (payload_front n) (append-nil (t ++ u)) ∙ e)
+    (e, ap (λ x. payload_front n ((t ++ u) ++ x)) got.1 ∙ ap (payload_front n) (append-nil (t ++ u)) ∙ e, inl got.1)
 payload_cut Usage n count found before now t r u s room split same few =
     let len = ap length same in
     payload_short n (t ++ u) (omega (arith, length-append t u))
@@ -78,29 +88,30 @@ payload_cut OutOfMemory n count found before now t r u s room split same few =
     payload_short n (t ++ u) (omega (arith, length-append t u))
 
 -- A part that stands in front leaves the rest to decide.
-pub then_decides : {X : Type 0} (f g : List ℕ → Front) (found : X → List ℕ → Front) (result : Result X Stop) (t r u s : List ℕ) → r ≡ u ++ s
-    → ((tail : List ℕ) → f (t ++ tail) ≡ g tail) → Decides g found result u s → Decides f found result (t ++ u) s
-then_decides f g found (Ok x) t r u s split h q = λ tail. ap f (append_assoc t u tail) ∙ h (u ++ tail) ∙ q tail
-then_decides f g found (Err BrokenInput) t r u s split h q =
-    (h u ∙ q.0, ap f (append_assoc t u s) ∙ h (u ++ s) ∙ q.1)
-then_decides f g found (Err Usage) t r u s split h q = h u ∙ q
-then_decides f g found (Err ReadFailed) t r u s split h q = h u ∙ q
-then_decides f g found (Err WriteFailed) t r u s split h q = h u ∙ q
-then_decides f g found (Err OutOfMemory) t r u s split h q = h u ∙ q
+pub then_decides : {X : Type 0} (few more : ℕ) (f g : List ℕ → Front) (found : X → List ℕ → Front) (result : Result X Stop) (t r u s : List ℕ) → r ≡ u ++ s → length t ≤ few
+    → ((tail : List ℕ) → f (t ++ tail) ≡ g tail) → Decides more g found result u s → Decides (few + more) f found result (t ++ u) s
+then_decides few more f g found (Ok x) t r u s split le h q = λ tail. ap f (append_assoc t u tail) ∙ h (u ++ tail) ∙ q tail
+then_decides few more f g found (Err BrokenInput) t r u s split le h q =
+    (h u ∙ q.0, ap f (append_assoc t u s) ∙ h (u ++ s) ∙ q.1, stops_behind few more t u s le q.2)
+then_decides few more f g found (Err Usage) t r u s split le h q = h u ∙ q
+then_decides few more f g found (Err ReadFailed) t r u s split le h q = h u ∙ q
+then_decides few more f g found (Err WriteFailed) t r u s split le h q = h u ∙ q
+then_decides few more f g found (Err OutOfMemory) t r u s split le h q = h u ∙ q
 
 -- An error decides the same of any kind of answer.
-pub same_error : {X Y : Type 0} (f : List ℕ → Front) (found : X → List ℕ → Front) (other : Y → List ℕ → Front) (e : Stop) (t r : List ℕ)
-    → Decides f found (Err e) t r → Decides f other (Err e) t r
-same_error f found other BrokenInput t r q = q
-same_error f found other Usage t r q = q
-same_error f found other ReadFailed t r q = q
-same_error f found other WriteFailed t r q = q
-same_error f found other OutOfMemory t r q = q
+pub same_error : {X Y : Type 0} (most : ℕ) (f : List ℕ → Front) (found : X → List ℕ → Front) (other : Y → List ℕ → Front) (e : Stop) (t r : List ℕ)
+    → Decides most f found (Err e) t r → Decides most f other (Err e) t r
+same_error most f found other BrokenInput t r q = q
+same_error most f found other Usage t r q = q
+same_error most f found other ReadFailed t r q = q
+same_error most f found other WriteFailed t r q = q
+same_error most f found other OutOfMemory t r q = q
 
 -- no tag, no record
-pub no_tag : {X : Type 0} (may_stand : Bool) (found : X → List ℕ → Front) (e : Stop) (t r : List ℕ) → GetsTag (Err e) t r → Decides (front_of may_stand) found (Err e) t r
+pub no_tag : {X : Type 0} (may_stand : Bool) (found : X → List ℕ → Front) (e : Stop) (t r : List ℕ) → GetsTag (Err e) t r → Decides 5 (front_of may_stand) found (Err e) t r
 unfolding front_of
-no_tag may_stand found BrokenInput t r q = (ap (front_of may_stand) q.0, ap (front_of may_stand) (ap (λ x. x ++ r) q.0 ∙ q.1))
+no_tag may_stand found BrokenInput t r q =
+    (ap (front_of may_stand) q.0, ap (front_of may_stand) (ap (λ x. x ++ r) q.0 ∙ q.1), inl q.1)
 no_tag may_stand found Usage t r q = ap (front_of may_stand) q
 no_tag may_stand found ReadFailed t r q = ap (front_of may_stand) q
 no_tag may_stand found WriteFailed t r q = ap (front_of may_stand) q
@@ -118,6 +129,12 @@ no_byte WriteFailed new [] r q = refl
 no_byte WriteFailed new (x ∷ t) r q = absurd (omega (arith, q))
 no_byte OutOfMemory new [] r q = refl
 no_byte OutOfMemory new (x ∷ t) r q = absurd (omega (arith, q))
+
+-- a tag is one byte
+pub one_byte : (x : ℕ) (t : List ℕ) → t ≡ x ∷ [] → length t ≤ 1
+one_byte x t e =
+    let len = ap length e in
+    omega (arith, len)
 
 -- the closing byte
 pub closing_tag : (may_stand : Bool) (t tail : List ℕ) → t ≡ 90 ∷ [] → front_of may_stand (t ++ tail) ≡ closing tail

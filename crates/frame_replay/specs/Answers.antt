@@ -54,6 +54,10 @@ abbrev pub closing_mark : Option (List ℕ) → List ℕ
 closing_mark None = []
 closing_mark (Some rest) = 90 ∷ []
 
--- what is written for an input: the magic, a record for each whole transaction, and the closing byte where the framing isn't broken; nothing where the input's magic is wrong
+-- the magic, and a record for each whole transaction; nothing where the input's magic is wrong
+unfoldable pub unclosed_answers : List ℕ → List ℕ
+unclosed_answers input = if has_magic input then output_magic ++ records_of (payloads_of input) start_scene else []
+
+-- what is written for an input: these, and the closing byte where the framing isn't broken
 unfoldable pub answers : List ℕ → List ℕ
-answers input = if has_magic input then output_magic ++ (records_of (payloads_of input) start_scene ++ closing_mark (after_closing input)) else []
+answers input = unclosed_answers input ++ closing_mark (after_closing input)

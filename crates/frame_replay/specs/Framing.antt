@@ -1,7 +1,7 @@
 -- How an input is divided into records.
-use Rattle.std.specs.Prelude.{ℕ, zero, suc, List, [], ◌∷◌, length, take, drop, codes, Bool, true, false, ◌&&◌, ◌||◌, Option, Some, None, nat_eq, nat_lt, ◌==◌, if◌then◌else◌}
+use Rattle.std.specs.Prelude.{ℕ, zero, suc, ◌+◌, List, [], ◌∷◌, length, take, drop, codes, Bool, true, false, ◌&&◌, ◌||◌, Option, Some, None, nat_eq, nat_lt, ◌==◌, if◌then◌else◌}
 use Rattle.std.specs.Int.{w32, from_le_bytes}
-use Rattle.std.specs.List.{starts_with}
+use Rattle.std.specs.List.{starts_with, sum_by}
 
 -- What stands in front of some bytes where a record is due: a whole transaction, with its payload and the bytes after it; the closing byte, and the bytes after it; or neither.
 pub data Front : Type 0 where
@@ -37,6 +37,10 @@ framed broken more = record { payloads = []; after = None }
 unfoldable pub framing : ℕ → List ℕ → Framing
 framing zero bytes = framed (front_of false bytes) (λ _. record { payloads = []; after = None })
 framing (suc n) bytes = framed (front_of true bytes) (framing n)
+
+-- how many bytes whole transactions take, each with its first byte and its length
+abbrev pub framed_size : List (List ℕ) → ℕ
+framed_size payloads = sum_by (λ payload. 5 + length payload) payloads
 
 -- how many transactions an input may have
 unfoldable pub most_transactions : ℕ

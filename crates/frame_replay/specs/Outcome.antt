@@ -1,18 +1,19 @@
 -- What a run leaves, by its status.
-use Rattle.std.specs.Prelude.{◌≡◌, ℕ, List, [], ◌∷◌, ◌++◌, map, codes, length, true, false, ◌==◌, if◌then◌else◌, Option, Some, None, MatchOption, ◌⊎◌, Result, Ok, Err, String}
+use Rattle.std.specs.Prelude.{◌≡◌, ℕ, ◌+◌, List, [], ◌∷◌, ◌++◌, map, codes, length, true, false, ◌==◌, if◌then◌else◌, Option, Some, None, MatchOption, ◌⊎◌, Result, Ok, Err, String}
 use Rattle.std.specs.Global.{Global}
 use Rattle.std.specs.String.{string_bytes}
-use Rattle.frame_replay.specs.Framing.{has_magic, payloads_of, after_closing, output_magic}
+use Rattle.frame_replay.specs.Framing.{has_magic, payloads_of, after_closing, output_magic, framed_size}
 use Rattle.frame_replay.specs.Scene.{start_scene}
-use Rattle.frame_replay.specs.Answers.{answers, records_of}
+use Rattle.frame_replay.specs.Answers.{answers, unclosed_answers, records_of}
+use Rattle.frame_replay.specs.Taking.{StopsWithin}
 use Rattle.frame_replay.specs.Steps.{Appended, IsFront, all_but_last}
 use Rattle.frame_replay.specs.declared.status.Stop.{Stop}
 use Rattle.frame_replay.specs.declared.status.Stop.TheVariants.{Usage, BrokenInput, ReadFailed, WriteFailed, OutOfMemory}
 
--- Four bytes were taken that are the magic, or what was taken isn't it, nor the input where that is what stopped it.
+-- Four bytes were taken that are the magic, or what was taken isn't it, nor the input where that is what stopped it: then four bytes were taken, or all there were.
 abbrev pub Opens : Result (Unit {0}) Stop → List ℕ → List ℕ → Type 0
 Opens (Ok _) taken rest = (length taken ≡ 4) × ((tail : List ℕ) → has_magic (taken ++ tail) ≡ true)
-Opens (Err BrokenInput) taken rest = (has_magic taken ≡ false) × (has_magic (taken ++ rest) ≡ false)
+Opens (Err BrokenInput) taken rest = (has_magic taken ≡ false) × (has_magic (taken ++ rest) ≡ false) × StopsWithin 4 taken rest
 Opens (Err Usage) taken rest = has_magic taken ≡ false
 Opens (Err ReadFailed) taken rest = has_magic taken ≡ false
 Opens (Err WriteFailed) taken rest = has_magic taken ≡ false
@@ -33,23 +34,25 @@ pub record IsAnswered (old new : Option (List ℕ)) (taken rest : List ℕ) : Ty
   pub closed : after_closing taken ≡ Some []
   pub left : after_closing (taken ++ rest) ≡ Some rest
 
--- All answers to what was taken were written, and they are those to the input, whose framing is broken.
+-- All answers to what was taken were written, and they are those to the input, whose framing is broken. Where the input goes on, no more was taken than the magic, the whole transactions and five bytes, so none of a payload that is too long.
 pub record IsBroken (old new : Option (List ℕ)) (taken rest : List ℕ) : Type 0 where
   pub wrote : Appended old new (answers taken)
   pub all : answers (taken ++ rest) ≡ answers taken
   pub broken : after_closing (taken ++ rest) ≡ None
+  pub reached : StopsWithin (9 + framed_size (payloads_of taken)) taken rest
 
 -- All answers to what was taken were written, and it has no closing byte.
 pub record IsCut (old new : Option (List ℕ)) (taken : List ℕ) : Type 0 where
   pub wrote : Appended old new (answers taken)
   pub unclosed : after_closing taken ≡ None
 
--- A front of the answers to what was taken was written, with the records of all whole transactions but the last.
+-- A front of the answers to what was taken was written, without a closing byte. It has the records of all whole transactions but the last, and all that was owed when the last byte was taken: each record is written before the next is read.
 pub record IsPart (old new : Option (List ℕ)) (taken : List ℕ) : Type 0 where
   pub out : List ℕ
   pub wrote : Appended old new out
-  pub front : IsFront out (answers taken)
+  pub front : IsFront out (unclosed_answers taken)
   pub has : IsFront (settled taken) out
+  pub in_turn : IsFront (unclosed_answers (all_but_last taken)) out
 
 -- what a replay leaves
 abbrev pub Replayed : Option (List ℕ) → Option (List ℕ) → Result (Unit {0}) Stop → List ℕ → List ℕ → Type 0

@@ -1,5 +1,5 @@
 -- What reading takes from an input, whether it succeeds or stops.
-use Rattle.std.specs.Prelude.{◌≡◌, ℕ, ◌<◌, List, [], ◌∷◌, ◌++◌, length, Option, Some, Result, Ok, Err}
+use Rattle.std.specs.Prelude.{◌≡◌, ℕ, ◌<◌, ◌≤◌, List, [], ◌∷◌, ◌++◌, length, Option, Some, ◌⊎◌, Result, Ok, Err}
 use Rattle.wr_io.specs.Ends.{HasFault}
 use Rattle.frame_replay.specs.Framing.{Front, broken}
 use Rattle.frame_replay.specs.declared.status.Stop.{Stop}
@@ -31,14 +31,23 @@ GetsTag (Err ReadFailed) taken rest = taken ≡ []
 GetsTag (Err WriteFailed) taken rest = taken ≡ []
 GetsTag (Err OutOfMemory) taken rest = taken ≡ []
 
--- What was taken decides what stands in front, whatever follows, or nothing whole does: in what was taken, and in all where that is what stopped it.
-abbrev pub Decides : {X : Type 0} → (List ℕ → Front) → (X → List ℕ → Front) → Result X Stop → List ℕ → List ℕ → Type 0
-Decides front found (Ok x) taken rest = (tail : List ℕ) → front (taken ++ tail) ≡ found x tail
-Decides front found (Err BrokenInput) taken rest = (front taken ≡ broken) × (front (taken ++ rest) ≡ broken)
-Decides front found (Err Usage) taken rest = front taken ≡ broken
-Decides front found (Err ReadFailed) taken rest = front taken ≡ broken
-Decides front found (Err WriteFailed) taken rest = front taken ≡ broken
-Decides front found (Err OutOfMemory) taken rest = front taken ≡ broken
+-- the input was taken to its end, or at most so many bytes of it
+abbrev pub StopsWithin : ℕ → List ℕ → List ℕ → Type 0
+StopsWithin most taken rest = (rest ≡ []) ⊎ (length taken ≤ most)
+
+-- What was taken decides what stands in front, whatever follows, or nothing whole does: in what was taken, and in all where that is what stopped it. So many bytes at most were taken to see it, where the input goes on.
+abbrev pub Decides : {X : Type 0} → ℕ → (List ℕ → Front) → (X → List ℕ → Front) → Result X Stop → List ℕ → List ℕ → Type 0
+Decides most front found (Ok x) taken rest = (tail : List ℕ) → front (taken ++ tail) ≡ found x tail
+Decides most front found (Err BrokenInput) taken rest = (front taken ≡ broken) × (front (taken ++ rest) ≡ broken) × StopsWithin most taken rest
+Decides most front found (Err Usage) taken rest = front taken ≡ broken
+Decides most front found (Err ReadFailed) taken rest = front taken ≡ broken
+Decides most front found (Err WriteFailed) taken rest = front taken ≡ broken
+Decides most front found (Err OutOfMemory) taken rest = front taken ≡ broken
+
+-- The same of a part that has so many bytes.
+abbrev pub DecidesWith : {X : Type 0} → ℕ → (List ℕ → Front) → (X → List ℕ → Front) → Result X Stop → List ℕ → List ℕ → Type 0
+DecidesWith size front found (Ok x) taken rest = (length taken ≡ size) × ((tail : List ℕ) → front (taken ++ tail) ≡ found x tail)
+DecidesWith size front found (Err e) taken rest = Decides size front found (Err e) taken rest
 
 -- A failed read comes by a fault of the source, and reading stops for no other end.
 abbrev pub ReadCause : ℕ → ℕ → Stop → Type 0

@@ -77,7 +77,8 @@ fn note(status: u8) -> &'static str
 }
 
 /// Does all that the program does: `words` are those after its name. It reads the source, writes the
-/// sink, writes a text for each status but 0 to `notes`, and answers the exit status.
+/// sink, writes a text for each status but 0 to `notes`, and answers the exit status. Each record is
+/// written whole before the next is read, and the closing byte comes with status 0 alone.
 ///
 /// | status | comes |
 /// |---|---|

@@ -3,7 +3,7 @@
 ghost use Rattle.std.specs.Prelude.{◌+◌, ◌≤◌, ◌<◌, ◌^◌, [], ◌≡◌, length, IfSome, IfOk, OnOk, IfErr, Ok, true};
 ghost use Rattle.frame_replay.specs.Framing.{front_of, sized_front, payload_front, transaction};
 ghost use Rattle.frame_replay.specs.Records.{met};
-ghost use Rattle.frame_replay.specs.Taking.{Took, Gets, GetsTag, Decides, ReadCause};
+ghost use Rattle.frame_replay.specs.Taking.{Took, Gets, GetsTag, Decides, DecidesWith, ReadCause};
 
 use crate::status::Stop;
 use wr_io::{Source, read_exact};
@@ -54,7 +54,7 @@ fn read_piece<S: Source>(source: &mut S, count: usize, payload: &mut Vec<u8>) ->
 /// Reads a payload of this length in bytes.
 fn read_payload<S: Source>(source: &mut S, length: usize, payload: &mut Vec<u8>) -> Result<(), Stop>
     requires { length ≤ 67108864 }
-    ensures told { IfSome (S.left source.old) (λ bytes. Took bytes (S.left source.new) (Decides (payload_front length) (λ _. transaction payload.new.items) result)) }
+    ensures told { IfSome (S.left source.old) (λ bytes. Took bytes (S.left source.new) (Decides 0 (payload_front length) (λ _. transaction payload.new.items) result)) }
     ensures never_falls { S.faults source.old ≤ S.faults source.new }
     ensures causes { IfErr result (ReadCause (S.faults source.old) (S.faults source.new)) }
 {
@@ -67,7 +67,7 @@ fn read_payload<S: Source>(source: &mut S, length: usize, payload: &mut Vec<u8>)
 
 /// Reads the length in bytes of a payload, at most 64 MiB.
 fn read_length<S: Source>(source: &mut S) -> Result<usize, Stop>
-    ensures told { IfSome (S.left source.old) (λ bytes. Took bytes (S.left source.new) (Decides sized_front payload_front result)) }
+    ensures told { IfSome (S.left source.old) (λ bytes. Took bytes (S.left source.new) (DecidesWith 4 sized_front payload_front result)) }
     ensures limit { IfOk result (λ n. n ≤ 67108864) }
     ensures never_falls { S.faults source.old ≤ S.faults source.new }
     ensures causes { IfErr result (ReadCause (S.faults source.old) (S.faults source.new)) }
@@ -83,7 +83,7 @@ fn read_length<S: Source>(source: &mut S) -> Result<usize, Stop>
 
 /// Reads what follows the tag of a transaction.
 fn read_sized<S: Source>(source: &mut S, payload: &mut Vec<u8>) -> Result<(), Stop>
-    ensures told { IfSome (S.left source.old) (λ bytes. Took bytes (S.left source.new) (Decides sized_front (λ _. transaction payload.new.items) result)) }
+    ensures told { IfSome (S.left source.old) (λ bytes. Took bytes (S.left source.new) (Decides 4 sized_front (λ _. transaction payload.new.items) result)) }
     ensures never_falls { S.faults source.old ≤ S.faults source.new }
     ensures causes { IfErr result (ReadCause (S.faults source.old) (S.faults source.new)) }
 {
@@ -109,7 +109,7 @@ pub(crate) fn read_record<S: Source>(
     may_stand: bool,
     payload: &mut Vec<u8>,
 ) -> Result<Record, Stop>
-    ensures told { IfSome (S.left source.old) (λ bytes. Took bytes (S.left source.new) (Decides (front_of may_stand) (met payload.new.items) result)) }
+    ensures told { IfSome (S.left source.old) (λ bytes. Took bytes (S.left source.new) (Decides 5 (front_of may_stand) (met payload.new.items) result)) }
     ensures allowed { result ≡ Ok Record.Transaction → may_stand ≡ true }
     ensures never_falls { S.faults source.old ≤ S.faults source.new }
     ensures causes { IfErr result (ReadCause (S.faults source.old) (S.faults source.new)) }

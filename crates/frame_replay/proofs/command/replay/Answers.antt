@@ -24,7 +24,7 @@ returns-in_err-write-clause-told g c =
     let old = g.K.Sink.written c.args.sink.now in
     let new = g.K.Sink.written c.write.new.sink in
     rw (p.1, p.2 ∙ c.in_err-write.ensures.causes.0) (weaker (g.S.Source.left c.args.source.now) (g.S.Source.left c.read_magic.new.source) (Opens (Ok tt)) (Replayed old new (Err WriteFailed))
-    (λ t r h. replayed_magic old new w.0 t r w.1 w.2 h) c.in_ok-read_magic.ensures.told)
+    (λ t r h. replayed_magic old new w.0 t r w.1 w.3 h) c.in_ok-read_magic.ensures.told)
 
 pub returns-clause-told : goal.returns-clause-told
 returns-clause-told g c =
