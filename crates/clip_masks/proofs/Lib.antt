@@ -3,3 +3,4 @@ pub mod Chains
 pub mod Moves
 pub mod Points
 pub mod Rows
+pub mod Sides

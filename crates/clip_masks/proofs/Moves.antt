@@ -1,6 +1,7 @@
 -- Rectangle clips, and clips that are moved.
 use Rattle.std.proofs.Common.{◌≡◌, ℕ, ℤ, pos, ◌+ℤ◌, ◌-ℤ◌, Bool, true, false, ◌&&◌, not, if◌then◌else◌, refl, sym, ap, ap₂, ◌∙◌, arith}
 use Rattle.std.proofs.lemmas.Int.{ints}
+use Rattle.std.proofs.lemmas.Bool.{or_from}
 use Rattle.wr_geom.specs.Bounds.{Bounds, holds, shifted}
 use Rattle.wr_geom.specs.declared.point.Point.{Point}
 use Rattle.wr_geom.specs.declared.sides.Radii.{Radii}
@@ -8,8 +9,8 @@ use Rattle.wr_geom.proofs.Points.{same_bounds, shifted_points}
 use Rattle.clip_masks.specs.Outline.{Outline, eighths, enlarged, is_excluded, is_inside, samples_inside}
 use Rattle.clip_masks.specs.Coverage.{coverage, square, IsRectClip, moved}
 use Rattle.clip_masks.specs.declared.clip.Clip.{Clip}
-use Rattle.clip_masks.proofs.Points.{has_pixel, samples_beside}
-use Rattle.clip_masks.proofs.Rows.{solid_pixel, coverage_at}
+use Rattle.clip_masks.proofs.Points.{excludes_beside, has_pixel, samples_beside, samples_whole}
+use Rattle.clip_masks.proofs.Rows.{coverage_at}
 
 -- ---- rectangle clips
 
@@ -20,7 +21,9 @@ square_pixel s x y e h =
     let tr = ap (λ (r : Radii). r.tr.0) e in
     let br = ap (λ (r : Radii). r.br.0) e in
     let bl = ap (λ (r : Radii). r.bl.0) e in
-    solid_pixel s x y 0 0 k (omega (arith, ints, k.left)) (omega (arith, ints, k.right)) (record { above = λ _. omega arith; below = λ _. omega arith }) (record { above = λ _. omega arith; below = λ _. omega arith })
+    samples_whole s x y k
+    (or_from _ _ (or_from _ _ (or_from _ _ (excludes_beside s.radii.tl _ _ (omega (arith, ints, k.left))) (excludes_beside s.radii.tr _ _ (omega (arith, ints, k.right))))
+    (excludes_beside s.radii.br _ _ (omega (arith, ints, k.right)))) (excludes_beside s.radii.bl _ _ (omega (arith, ints, k.left))))
 
 square_by : (c : Clip) (x y : ℤ) (t : Bool) → IsRectClip c → holds c.shape.rect x y ≡ t → coverage c x y ≡ (if t then 255 else 0)
 square_by c x y true is h = coverage_at c x y false 16 is.inwards (square_pixel c.shape x y is.corners h)

@@ -127,6 +127,10 @@ pub inside_is : (s : Outline) (a b : ℤ) → LiesWithin s.rect a b → not (exc
 unfolding is_inside
 inside_is s a b h = sym (ap (λ (t : Bool). t && not (is_excluded s a b)) (lies_holds s.rect a b h))
 
+pub or_either : (p q p' q' : Bool) → (p ≡ true → p' ≡ true) → (q ≡ true → q' ≡ true) → (p || q) ≡ true → (p' || q') ≡ true
+or_either true q p' q' f g e = or_left p' q' (f refl)
+or_either false q p' q' f g e = or_right p' q' (g e)
+
 -- a box is excluded where a box within it is
 tip_more : (s : Outline) (a b c d i j k l : ℤ) → i ≤ℤ a → j ≤ℤ b → c ≤ℤ k → d ≤ℤ l → excludes_tip s a b c d ≡ true → excludes_tip s i j k l ≡ true
 tip_more s a b c d i j k l f g h m e =
@@ -141,10 +145,6 @@ tip_more s a b c d i j k l f g h m e =
 
     less_right : (z p q : ℤ) → p ≤ℤ q → (p -ℤ eighths z) ≤ℤ (q -ℤ eighths z)
     less_right z p q h = omega (arith, ints)
-
-    or_either : (p q p' q' : Bool) → (p ≡ true → p' ≡ true) → (q ≡ true → q' ≡ true) → (p || q) ≡ true → (p' || q') ≡ true
-    or_either true q p' q' f g e = or_left p' q' (f refl)
-    or_either false q p' q' f g e = or_right p' q' (g e)
 
     or_more : {p q u v p' q' u' v' : Bool} → (p ≡ true → p' ≡ true) → (q ≡ true → q' ≡ true) → (u ≡ true → u' ≡ true) → (v ≡ true → v' ≡ true) → (p || q || u || v) ≡ true → (p' || q' || u' || v') ≡ true
     or_more {p = p} {q = q} {u = u} {v = v} {p' = p'} {q' = q'} {u' = u'} {v' = v'} f g h m e =

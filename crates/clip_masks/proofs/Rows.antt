@@ -1,20 +1,20 @@
 -- Rows of pixels of a shape.
-use Rattle.std.proofs.Common.{◌≡◌, ℕ, ◌-◌, ◌^◌, ◌<◌, ◌≤◌, List, get_or, inl, inr, if◌then◌else◌, ℤ, pos, ◌+ℤ◌, ◌-ℤ◌, ◌≤ℤ◌, ◌<ℤ◌, Bool, true, false, ◌||◌, sym, ap, ap₂, ◌∙◌, arith}
-use Rattle.std.specs.Int.{int_max, int_min}
-use Rattle.std.proofs.lemmas.Int.{ints, clamps, by_lt_z}
-use Rattle.std.proofs.lemmas.Bool.{or_from, cases_lt}
-use Rattle.wr_geom.specs.Bounds.{IsCoordinate, IsRect}
-use Rattle.wr_geom.proofs.Points.{misses_it}
-use Rattle.clip_masks.specs.Outline.{Outline, eighths, excludes, samples_inside, share}
+use Rattle.std.proofs.Common.{◌≡◌, ℕ, ◌+◌, ◌-◌, ◌^◌, ◌<◌, ◌≤◌, List, get_or, inl, inr, if◌then◌else◌, ℤ, pos, ◌+ℤ◌, ◌≤ℤ◌, ◌<ℤ◌, Bool, true, false, refl, sym, ap, ap₂, ◌∙◌, arith}
+use Rattle.std.proofs.lemmas.Int.{ints, clamps}
+use Rattle.std.proofs.lemmas.Bool.{cases_lt}
+use Rattle.wr_geom.specs.Bounds.{IsCoordinate, IsRect, holds}
+use Rattle.clip_masks.specs.Outline.{Outline, samples_inside, share}
 use Rattle.blend_rules.specs.Colour.{product}
 use Rattle.blend_rules.proofs.Products.{product-full_right, product-zero_right}
 use Rattle.clip_masks.specs.Coverage.{coverage}
 use Rattle.clip_masks.specs.declared.clip.Clip.{Clip}
 use Rattle.clip_masks.proofs.Bytes.{IsWritten}
 use Rattle.clip_masks.specs.Corners.{HasPixel}
-use Rattle.clip_masks.specs.Spans.{AreSpans}
+use Rattle.clip_masks.specs.Spans.{AreSpans, AreEnds, IsBetween}
+use Rattle.clip_masks.specs.declared.side.Ends.{Ends}
 use Rattle.clip_masks.specs.declared.spans.Spans.{Spans}
-use Rattle.clip_masks.proofs.Points.{excludes_beside, excludes_level, samples_beside, samples_whole}
+use Rattle.clip_masks.proofs.Points.{has_pixel, samples_beside}
+use Rattle.clip_masks.proofs.Sides.{left_side, right_side, is_at, solid_pixel, gone_left, gone_right}
 
 -- no pixel of the row is covered
 pub empty_spans : (s : Outline) (y z : ℤ) (r : Spans) → IsCoordinate z → r.left ≡ z → r.from ≡ z → r.to ≡ z → r.right ≡ z → ((x : ℤ) → samples_inside s x y ≡ 0) → AreSpans s y r
@@ -29,65 +29,41 @@ empty_spans s y z r ok e f g h none = record {
   after = λ x _. none x;
 }
 
--- how far corners reach into a row
-pub record Reaches (top bottom : ℕ × ℕ) (y y0 y1 : ℤ) (n : ℕ) : Type 0 where
-  pub above : y <ℤ (y0 +ℤ pos top.1) → top.0 ≤ n
-  pub below : (y1 -ℤ pos bottom.1) ≤ℤ y → bottom.0 ≤ n
+-- an edge between two in range is in range
+pub between_range : (d e f : ℤ) → IsCoordinate d → IsCoordinate f → d ≤ℤ e → e ≤ℤ f → IsCoordinate e
+between_range d e f a b h k = record { low = omega (arith, ints, a.low); high = omega (arith, ints, b.high) }
 
-clear_top : (r : ℕ × ℕ) (y y0 dx : ℤ) (n : ℕ) → (y <ℤ (y0 +ℤ pos r.1) → r.0 ≤ n) → (r.0 ≤ n → dx ≤ℤ pos 0) → excludes r dx (eighths (y0 +ℤ pos r.1) -ℤ (eighths y +ℤ pos 1)) ≡ false
-clear_top r y y0 dx n f g =
-    by_lt_z y (y0 +ℤ pos r.1)
-    (λ h. excludes_beside r dx (eighths (y0 +ℤ pos r.1) -ℤ (eighths y +ℤ pos 1)) (g (f h)))
-    (λ h. excludes_level r dx (eighths (y0 +ℤ pos r.1) -ℤ (eighths y +ℤ pos 1)) (omega (arith, ints)))
-
-clear_bottom : (r : ℕ × ℕ) (y y1 dx : ℤ) (n : ℕ) → ((y1 -ℤ pos r.1) ≤ℤ y → r.0 ≤ n) → (r.0 ≤ n → dx ≤ℤ pos 0) → excludes r dx ((eighths y +ℤ pos 7) -ℤ eighths (y1 -ℤ pos r.1)) ≡ false
-clear_bottom r y y1 dx n f g =
-    by_lt_z y (y1 -ℤ pos r.1)
-    (λ h. excludes_level r dx ((eighths y +ℤ pos 7) -ℤ eighths (y1 -ℤ pos r.1)) (omega (arith, ints)))
-    (λ h. excludes_beside r dx ((eighths y +ℤ pos 7) -ℤ eighths (y1 -ℤ pos r.1)) (g (f h)))
-
-beside_left : (x0 x : ℤ) (r n : ℕ) → (x0 +ℤ pos n) ≤ℤ x → r ≤ n → (eighths (x0 +ℤ pos r) -ℤ (eighths x +ℤ pos 1)) ≤ℤ pos 0
-beside_left x0 x r n h k = omega (arith, ints)
-
-beside_right : (x1 x : ℤ) (r n : ℕ) → x <ℤ (x1 -ℤ pos n) → r ≤ n → ((eighths x +ℤ pos 7) -ℤ eighths (x1 -ℤ pos r)) ≤ℤ pos 0
-beside_right x1 x r n h k = omega (arith, ints)
-
--- beside what its corners reach a row is covered whole
-pub solid_pixel : (s : Outline) (x y : ℤ) (n m : ℕ) → HasPixel s.rect x y → (s.rect.x0 +ℤ pos n) ≤ℤ x → x <ℤ (s.rect.x1 -ℤ pos m)
-    → Reaches s.radii.tl s.radii.bl y s.rect.y0 s.rect.y1 n → Reaches s.radii.tr s.radii.br y s.rect.y0 s.rect.y1 m → samples_inside s x y ≡ 16
-solid_pixel s x y n m h f g p q =
-    let r = s.radii in
-    let b = s.rect in
-    samples_whole s x y h
-    (none_of _ _ _ _
-    (clear_top r.tl y b.y0 (eighths (b.x0 +ℤ pos r.tl.0) -ℤ (eighths x +ℤ pos 1)) n p.above (beside_left b.x0 x r.tl.0 n f))
-    (clear_top r.tr y b.y0 ((eighths x +ℤ pos 7) -ℤ eighths (b.x1 -ℤ pos r.tr.0)) m q.above (beside_right b.x1 x r.tr.0 m g))
-    (clear_bottom r.br y b.y1 ((eighths x +ℤ pos 7) -ℤ eighths (b.x1 -ℤ pos r.br.0)) m q.below (beside_right b.x1 x r.br.0 m g))
-    (clear_bottom r.bl y b.y1 (eighths (b.x0 +ℤ pos r.bl.0) -ℤ (eighths x +ℤ pos 1)) n p.below (beside_left b.x0 x r.bl.0 n f)))
-  where
-    none_of : (p q u v : Bool) → p ≡ false → q ≡ false → u ≡ false → v ≡ false → (p || q || u || v) ≡ false
-    none_of p q u v e f g h = or_from (p || q || u) v (or_from (p || q) u (or_from p q e f) g) h
-
-beside_row : (s : Outline) (x y : ℤ) → (HasPixel s.rect x y → ⊥) → samples_inside s x y ≡ 0
-beside_row s x y f = samples_beside s x y (misses_it s.rect x y (λ h. f (record { left = h.left; right = h.right; top = h.top; bottom = h.bottom })))
+-- a pixel of no sample, if one of the rectangle has none
+by_pixel : (s : Outline) (x y : ℤ) → (HasPixel s.rect x y → samples_inside s x y ≡ 0) → samples_inside s x y ≡ 0
+by_pixel s x y f = elim (holds s.rect x y) as (λ t. holds s.rect x y ≡ t → samples_inside s x y ≡ 0) [
+  | true ↦ (λ e. f (has_pixel s.rect x y e))
+  | false ↦ (λ e. samples_beside s x y e)
+] refl
 
 -- the spans of a row that the shape has
-pub full_spans : (s : Outline) (y : ℤ) (r : Spans) (n m : ℕ) → IsRect s.rect → s.rect.y0 ≤ℤ y → y <ℤ s.rect.y1
-    → r.left ≡ s.rect.x0 → r.right ≡ s.rect.x1 → r.from ≡ int_min (s.rect.x0 +ℤ pos n) s.rect.x1 → r.to ≡ int_max (s.rect.x1 -ℤ pos m) r.from
-    → Reaches s.radii.tl s.radii.bl y s.rect.y0 s.rect.y1 n → Reaches s.radii.tr s.radii.br y s.rect.y0 s.rect.y1 m → AreSpans s y r
-full_spans s y r n m ok top bottom e h f g p q = record {
-  first = omega (arith, ints, clamps, ok.across);
-  second = omega (arith, ints, clamps);
-  third = omega (arith, ints, clamps, ok.across);
-  start = rw e ok.in_range.left;
-  end = rw h ok.in_range.right;
-  before = λ x l. beside_row s x y (λ k. let i = k.left in omega (arith, ints));
-  solid = λ x k l.
-      let left : (s.rect.x0 +ℤ pos n) ≤ℤ x = omega (arith, ints, clamps) in
-      let right : x <ℤ (s.rect.x1 -ℤ pos m) = omega (arith, ints, clamps) in
-      solid_pixel s x y n m (record { left = omega (arith, ints); right = omega (arith, ints); top = top; bottom = bottom }) left right p q;
-  after = λ x l. beside_row s x y (λ k. let i = k.right in omega (arith, ints));
-}
+pub full_spans : (s : Outline) (y : ℤ) (r : Spans) (n m : ℕ) (first last : Ends) → IsRect s.rect → y ≡ s.rect.y0 +ℤ pos n → y +ℤ pos (1 + m) ≡ s.rect.y1
+    → AreEnds (left_side s n m) first → AreEnds (right_side s n m) last → IsBetween s.rect first last r → AreSpans s y r
+full_spans s y r n m first last ok top bottom p q is =
+    let a = p.order in
+    let b = q.order in
+    let wide = ok.across in
+    record {
+      first = omega (arith, ints, clamps);
+      second = omega (arith, ints, clamps);
+      third = omega (arith, ints, clamps);
+      start = between_range s.rect.x0 r.left s.rect.x1 ok.in_range.left ok.in_range.right (omega (arith, ints, clamps)) (omega (arith, ints, clamps));
+      end = between_range s.rect.x0 r.right s.rect.x1 ok.in_range.left ok.in_range.right (omega (arith, ints, clamps)) (omega (arith, ints, clamps));
+      before = λ x less. by_pixel s x y (λ h.
+          let at = is_at s x y n m h top bottom in
+          gone_left at (p.gone _ (omega (arith, ints, clamps, at.left))));
+      solid = λ x more less.
+          let h : HasPixel s.rect x y = record { left = omega (arith, ints, clamps); right = omega (arith, ints, clamps); top = omega (arith, ints); bottom = omega (arith, ints) } in
+          let at = is_at s x y n m h top bottom in
+          solid_pixel at (p.clear _ (omega (arith, ints, clamps, at.left))) (q.clear _ (omega (arith, ints, clamps, at.right)));
+      after = λ x more. by_pixel s x y (λ h.
+          let at = is_at s x y n m h top bottom in
+          gone_right at (q.gone _ (omega (arith, ints, clamps, at.right))));
+    }
 
 -- ---- places of a row
 
@@ -117,10 +93,6 @@ place_range e f x0 len n m k a b p q h l =
     let after = p.after k h (omega (arith, q.within)) in
     let before = q.before k l in
     record { low = omega (arith, ints, a.low); high = omega (arith, ints, b.high) }
-
--- an edge between two in range is in range
-pub between_range : (d e f : ℤ) → IsCoordinate d → IsCoordinate f → d ≤ℤ e → e ≤ℤ f → IsCoordinate e
-between_range d e f a b h k = record { low = omega (arith, ints, a.low); high = omega (arith, ints, b.high) }
 
 -- ---- what a clip covers where its shape covers all or nothing
 

@@ -1,8 +1,9 @@
 -- Boxes of sample points against a shape's corners.
-use Rattle.std.specs.Prelude.{◌≡◌, ℕ, ◌^◌, ℤ, pos, neg_ℤ, ◌+ℤ◌, ◌-ℤ◌, ◌≤ℤ◌, ◌<ℤ◌, Bool, ◌||◌}
+use Rattle.std.specs.Prelude.{◌≡◌, ℕ, ◌^◌, ◌+◌, ◌*◌, ℤ, pos, neg_ℤ, ◌+ℤ◌, ◌-ℤ◌, ◌≤ℤ◌, ◌<ℤ◌, Bool, ◌||◌}
 use Rattle.wr_geom.specs.Bounds.{Bounds}
 use Rattle.clip_masks.specs.Outline.{Outline, eighths, excludes}
 use Rattle.clip_masks.specs.declared.corner.Outward.{Outward}
+use Rattle.clip_masks.specs.declared.side.Side.{Side}
 
 -- a distance of at most two to the 40th eighths of a pixel, not outward
 pub record IsNear (z : ℤ) : Type 0 where
@@ -46,3 +47,13 @@ pub record IsOutward (r : Bounds) (a b c d : ℤ) (o : Outward) : Type 0 where
   pub above : IsNear o.top
   pub beyond : IsNear o.right
   pub below : IsNear o.bottom
+
+-- how far a point i eighths beyond so many pixels inward lies outward
+abbrev pub outward : ℕ → ℕ → ℤ
+outward pixels i = neg_ℤ (pos (8 * pixels + i))
+
+-- whether a corner of a side excludes the sample at i eighths inward of its pixel k, on both axes
+unfoldable pub side_excludes : Side → ℕ → ℕ → Bool
+side_excludes s k i =
+    excludes s.top (outward k i +ℤ eighths (pos s.top.0)) (outward s.above i +ℤ eighths (pos s.top.1))
+    || excludes s.bottom (outward k i +ℤ eighths (pos s.bottom.0)) (outward s.below i +ℤ eighths (pos s.bottom.1))

@@ -10,7 +10,7 @@ impl Clip {
 
     /// Multiplies each byte of a row, which begins at (x0, y), by the clip's cover there.
     ///
-    /// Only the bytes of pixels beside a corner's centre are looked at one by one: elsewhere a
+    /// Only the bytes of pixels that a corner's arc crosses are looked at one by one: elsewhere a
     /// cover of 0 fills, and one of 255 leaves the row as it is.
     pub(crate) fn scale_row(&self, y: i32, x0: i32, out: &mut [u8])
         ensures { EachIndex out.new (λ k. slice_index out.new k

@@ -1,6 +1,7 @@
-ghost use Rattle.std.specs.Prelude.{◌≤◌, pos, ◌≤ℤ◌, ◌<ℤ◌, ◌+ℤ◌, ◌-ℤ◌};
+ghost use Rattle.clip_masks.specs.Spans.{IsBetween};
 
 use super::Rounded;
+use super::side::{Ends, Side};
 use wr_geom::Rect;
 
 /// The pixels at which a row of a shape begins and ends, and those from which and up to which the
@@ -30,32 +31,37 @@ impl Rounded {
                 right: left,
             };
         }
-        let right = rect.x1();
-        let from = (left + reach(rect, y, radii.tl, radii.bl) as i32).min(right);
-        let to = (right - reach(rect, y, radii.tr, radii.br) as i32).max(from);
-        Spans {
-            left,
-            from,
-            to,
-            right,
+        let (above, below) = ((y - rect.y0()) as u32, (rect.y1() - 1 - y) as u32);
+        let first = Side {
+            top: radii.tl,
+            bottom: radii.bl,
+            above,
+            below,
         }
+        .ends();
+        let last = Side {
+            top: radii.tr,
+            bottom: radii.br,
+            above,
+            below,
+        }
+        .ends();
+        between(rect, first, last)
     }
 }
 
-/// How many pixels of the row at `y` lie beside the centres of a top and a bottom corner.
-fn reach(rect: Rect, y: i32, top: (u16, u16), bottom: (u16, u16)) -> u16
-    ensures above { y <ℤ (rect.y0 +ℤ pos top.1) → top.0 ≤ result }
-    ensures below { (rect.y1 -ℤ pos bottom.1) ≤ℤ y → bottom.0 ≤ result }
+/// What the corners at both sides of a rectangle leave of a row of it. Where these cross, no pixel
+/// is taken to be solid.
+fn between(rect: Rect, first: Ends, last: Ends) -> Spans
+    ensures { IsBetween rect first last result }
 {
-    let above = if y < rect.y0() + top.1 as i32 {
-        top.0
-    } else {
-        0
-    };
-    let below = if rect.y1() - bottom.1 as i32 <= y {
-        bottom.0
-    } else {
-        0
-    };
-    above.max(below)
+    let (x0, x1) = (rect.x0(), rect.x1());
+    let from = (x0 + first.clear as i32).min(x1);
+    let to = (x1 - last.clear as i32).max(from);
+    Spans {
+        left: (x0 + first.gone as i32).min(x1),
+        from,
+        to,
+        right: (x1 - last.gone as i32).max(to),
+    }
 }

@@ -36,9 +36,9 @@ fn pair(alloc: Global, first: Clip, second: Clip) -> Result<Vec<Clip>, AllocErro
 
 /// Whether a row is what `cover` gives at each of its pixels.
 fn row_agrees(clip: &Clip, y: i32) -> bool {
-    let mut row = [0; 12];
+    let mut row = [0; 44];
     clip.mask_row(y, -2, &mut row);
-    for k in 0..12 {
+    for k in 0..44 {
         if row[k] != clip.cover(k as i32 - 2, y) {
             return false;
         }
@@ -49,7 +49,7 @@ fn row_agrees(clip: &Clip, y: i32) -> bool {
 /// Whether each row around a clip does.
 fn rows_agree(shape: Rounded, out: bool) -> bool {
     let clip = Clip { shape, out };
-    for y in -2..10 {
+    for y in -2..32 {
         if !row_agrees(&clip, y) {
             return false;
         }
@@ -133,6 +133,29 @@ fn shrinks_to_overlapping_corners(rt: HostRuntime) -> Result<(), Fail> {
     assert_eq!(rt; inner.radii().tl, (4, 4));
     assert_eq!(rt; inner.radii().tr, (1, 0));
     assert_eq!(rt; inner.radii().br, (5, 4));
+    assert!(rt; rows_agree(inner, false));
+    assert!(rt; rows_agree(inner, true));
+    Ok(())
+}
+
+#[test]
+fn large_rows_are_covers(rt: HostRuntime) -> Result<(), Fail> {
+    let radii = Radii {
+        tl: (31, 20),
+        tr: (9, 10),
+        br: (30, 20),
+        bl: (10, 7),
+    };
+    let outer = shape(rect(0, 0, 40, 30)?, radii)?;
+    assert!(rt; rows_agree(outer, false));
+    // The upper left corner is wider than what is left, and overlaps the lower right one.
+    let widths = Widths {
+        top: 4,
+        right: 14,
+        bottom: 4,
+        left: 3,
+    };
+    let inner = outer.inset(widths);
     assert!(rt; rows_agree(inner, false));
     assert!(rt; rows_agree(inner, true));
     Ok(())

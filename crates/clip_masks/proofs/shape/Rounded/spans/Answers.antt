@@ -1,5 +1,5 @@
-use Rattle.std.proofs.Common.{arith, ◌≡◌, pos, ◌-ℤ◌, ap, ◌∙◌, to_z, of_z, w32}
-use Rattle.std.proofs.lemmas.Int.{ints, clamps, to_z-of_z}
+use Rattle.std.proofs.Common.{arith, ◌≡◌, ap, to_z, of_z, w32}
+use Rattle.std.proofs.lemmas.Int.{ints}
 use Rattle.wr_geom.specs.Bounds.{Bounds, IsRect}
 use Rattle.wr_geom.proofs.Points.{misses_it}
 use Rattle.clip_masks.proofs.Points.{samples_beside, ge_is, gt_is}
@@ -24,14 +24,12 @@ returns c =
     let x1 = ap (λ (b : Bounds). b.x1) c.rect-rect.ensures in
     let y0 = ap (λ (b : Bounds). b.y0) c.rect-rect.ensures in
     let y1 = ap (λ (b : Bounds). b.y1) c.rect-rect.ensures in
-    let left = simp to_z-of_z at (rw (c.rect-rect.ensures, c.radii-radii.ensures.value) at c.reach.ensures) in
-    let right = simp to_z-of_z at (rw (c.rect-rect.ensures, c.radii-radii.ensures.value) at c.reach-2.ensures) in
     let at_y : to_z w32 (of_z w32 c.args.y) ≡ c.args.y = omega (arith, ints) in
     let at_y0 : to_z w32 (of_z w32 c.y0.result) ≡ s.rect.y0 = omega (arith, ints) in
     let at_y1 : to_z w32 (of_z w32 c.y1.result) ≡ s.rect.y1 = omega (arith, ints) in
     let above = ge_is c.args.y s.rect.y0 (rw (at_y, at_y0) at c.if-y-y0.false) in
     let below = gt_is s.rect.y1 c.args.y (rw (at_y1, at_y) at c.if-y1-y.false) in
-    let shown : to_z w32 (of_z w32 c.max-to.result) ≡ c.max-to.result = omega (arith, ints) in
-    let end : to_z w32 (of_z w32 (to_z w32 (of_z w32 c.x1-right.result) -ℤ to_z w32 c.reach-2.result)) ≡ s.rect.x1 -ℤ pos c.reach-2.result = omega (arith, ints) in
-    full_spans s c.args.y _ c.reach.result c.reach-2.result ok above below (omega (arith, ints)) (omega (arith, ints)) (omega (arith, ints, clamps)) (shown ∙ (rw end at c.max-to.ensures.value))
-    (record { above = left.above; below = left.below }) (record { above = right.above; below = right.below })
+    let first = rw c.radii-radii.ensures.value at c.ends-first.ensures in
+    let last = rw c.radii-radii.ensures.value at c.ends-last.ensures in
+    let is = rw c.rect-rect.ensures at c.between.ensures in
+    full_spans s c.args.y c.between.result _ _ c.ends-first.result c.ends-last.result ok (omega (arith, ints)) (omega (arith, ints)) first last is
