@@ -1,7 +1,7 @@
 #!/bin/sh
 # Runs the built program with real streams, and asks for each status, its note and what was written: a
-# broken pipe, a full disk, a stream that can't be read and memory that runs out among them. It prints one
-# line, and ends with 0 where all is as it should be.
+# broken pipe, a full disk, a stream that can't be read, a word that isn't text and memory that runs out
+# among them. It prints one line, and ends with 0 where all is as it should be.
 cd "$(dirname "$0")/.." || exit 1
 program=crates/wrreplay/out/wrreplay
 if [ ! -x "$program" ]; then
@@ -40,6 +40,10 @@ written "a whole file" examples/half_red.wrf
 "$program" < examples/half_red.wrt > "$work/out" 2> "$work/note"
 expect "no word" $? 1 "usage: wrreplay replay [--stats] | paint | load NUMBER COUNT"
 written "no word" "$work/nothing"
+
+"$program" replay "$(printf '\377')" < examples/half_red.wrt > "$work/out" 2> "$work/note"
+expect "a word that isn't text" $? 1 "usage: wrreplay replay [--stats] | paint | load NUMBER COUNT"
+written "a word that isn't text" "$work/nothing"
 
 head -c 30 examples/half_red.wrt | "$program" replay > "$work/out" 2> "$work/note"
 expect "a cut file" $? 2 "wrreplay: broken input"

@@ -3,19 +3,32 @@
 #![tactic(auto)]
 
 use frame_replay::{StdSink, StdSource, run};
-use std::io::BufReader;
+use std::io::{BufReader, ErrorKind};
 use std::process::ExitCode;
 use std::{env, io};
 
 /// The exit status for want of memory, also where it comes before the run.
 const OUT_OF_MEMORY: u8 = 5;
 
-/// Runs over the standard streams, with the words after the program's name.
-fn start(rt: &HostRuntime) -> io::Result<u8> {
+/// The words after the program's name. Where a word isn't text there are none, since no command has
+/// such a word: the run then answers as it does for any words that aren't a command's.
+fn words(rt: &HostRuntime) -> io::Result<Vec<String>> {
     let mut words = Vec::new(rt.alloc());
-    for word in env::args(rt)?.skip(1) {
-        words.push(word)?;
+    match env::args(rt) {
+        Ok(given) => {
+            for word in given.skip(1) {
+                words.push(word)?;
+            }
+            Ok(words)
+        }
+        Err(error) if error.kind() == ErrorKind::InvalidData => Ok(words),
+        Err(error) => Err(error),
     }
+}
+
+/// Runs over the standard streams.
+fn start(rt: &HostRuntime) -> io::Result<u8> {
+    let words = words(rt)?;
     let mut source = StdSource::new(BufReader::new(rt.alloc(), rt.stdin())?);
     let mut sink = StdSink::new(rt.stdout());
     let mut notes = StdSink::new(rt.stderr());
@@ -23,5 +36,12 @@ fn start(rt: &HostRuntime) -> io::Result<u8> {
 }
 
 fn main(rt: HostRuntime) -> ExitCode {
-    ExitCode::from(start(&rt).unwrap_or(OUT_OF_MEMORY))
+    match start(&rt) {
+        Ok(status) => ExitCode::from(status),
+        Err(_) => {
+            // A failing note changes no status.
+            let _ = eprintln!(rt; "wrreplay: out of memory");
+            ExitCode::from(OUT_OF_MEMORY)
+        }
+    }
 }
