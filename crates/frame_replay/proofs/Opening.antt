@@ -6,8 +6,8 @@ use Rattle.frame_replay.specs.Framing.{has_magic, input_magic, output_magic, bod
 use Rattle.frame_replay.specs.Scene.{start_scene}
 use Rattle.frame_replay.specs.Answers.{answers, unclosed_answers, records_of}
 use Rattle.frame_replay.specs.Taking.{Gets, StopsWithin, ReadCause}
-use Rattle.frame_replay.specs.Steps.{Appended, IsFront, body_answers, all_but_last, IsPartOf, Ended}
-use Rattle.frame_replay.specs.Outcome.{Opens, settled, settled_for, IsPart, Replayed, Outcome, status_of}
+use Rattle.frame_replay.specs.Steps.{Appended, IsFront, body_answers, all_but_last, IsPartOf, FramesOneMore, Ended}
+use Rattle.frame_replay.specs.Outcome.{Opens, settled, settled_for, HasOneMore, IsPart, Replayed, Outcome, status_of}
 use Rattle.frame_replay.specs.declared.status.Stop.{Stop}
 use Rattle.frame_replay.specs.declared.status.Stop.TheVariants.{Usage, BrokenInput, ReadFailed, WriteFailed, OutOfMemory}
 use Rattle.frame_replay.proofs.Taken.{stops_more, stops_behind}
@@ -36,7 +36,7 @@ magic_short (a ∷ b ∷ c ∷ d ∷ t) few = absurd (omega (arith, few))
 -- too few bytes
 pub opens_short : (e : Stop) (new t r : List ℕ) → Gets {X = Unit {0}} (Err e) 4 [] new t r → Opens (Err e) t r
 opens_short BrokenInput new t r q =
-    (magic_short t q.0, ap (λ x. has_magic (t ++ x)) q.1 ∙ ap has_magic (append-nil t) ∙ magic_short t q.0, inl q.1)
+    (magic_short t q.0, ap (λ x. has_magic (t ++ x)) q.1 ∙ ap has_magic (append-nil t) ∙ magic_short t q.0, omega (arith, q.0))
 opens_short Usage new t r q = magic_short t q
 opens_short ReadFailed new t r q = magic_short t q
 opens_short WriteFailed new t r q = magic_short t q
@@ -103,7 +103,7 @@ replayed_none a b BrokenInput w t r cause h = record {
   wrote = rw (answers_none t h.0) (nothing_written w);
   all = answers_none (t ++ r) h.1 ∙ sym (answers_none t h.0);
   broken = after_none (t ++ r) h.1;
-  reached = rw (payloads_none t h.0) (stops_more 4 9 t r (omega arith) h.2);
+  reached = inl (omega (arith, h.2));
 }
 replayed_none a b ReadFailed w t r cause h =
     record { wrote = rw (answers_none t h) (nothing_written w); unclosed = after_none t h }
@@ -159,9 +159,13 @@ module _ (w0 w1 w2 : Option (List ℕ)) (t u s : List ℕ) (first : Appended w0 
     in_turn = turn_behind t u h.out len is h.in_turn;
   }
 
-  reached_behind : StopsWithin (5 + framed_size (framing 4294967295 u).payloads) u s → StopsWithin (9 + framed_size (payloads_of (t ++ u))) (t ++ u) s
-  reached_behind h = rw (payloads_behind t u len (is u)) (stops_more (4 + (5 + framed_size (framing 4294967295 u).payloads)) (9 + framed_size (framing 4294967295 u).payloads) (t ++ u) s (omega arith)
-      (stops_behind 4 (5 + framed_size (framing 4294967295 u).payloads) t u s (omega (arith, len)) h))
+  reached_behind : StopsWithin (5 + framed_size (framing 4294967295 u).payloads) (FramesOneMore 4294967295 (framing 4294967295 u).payloads) u s
+      → StopsWithin (9 + framed_size (payloads_of (t ++ u))) (HasOneMore (payloads_of (t ++ u))) (t ++ u) s
+  reached_behind h =
+      let ps = (framing 4294967295 u).payloads in
+      let more : (tail : List ℕ) → FramesOneMore 4294967295 ps (u ++ tail) → HasOneMore ps ((t ++ u) ++ tail) = λ tail w. (w.0, ap payloads_of (append_assoc t u tail) ∙ payloads_behind t (u ++ tail) len (is (u ++ tail)) ∙ w.1) in
+      rw (payloads_behind t u len (is u)) (stops_more (4 + (5 + framed_size ps)) (9 + framed_size ps) (HasOneMore ps) (t ++ u) s (omega arith)
+      (stops_behind 4 (5 + framed_size ps) (HasOneMore ps) (FramesOneMore 4294967295 ps) t u s (omega (arith, len)) more h))
 
   -- what the records behind the magic leave
   pub replayed_behind : (ended : Result (Unit {0}) Stop) → Ended 4294967295 start_scene w1 w2 ended u s → Replayed w0 w2 ended (t ++ u) s

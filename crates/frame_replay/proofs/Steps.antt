@@ -6,14 +6,14 @@ use Rattle.wr_io.specs.Ends.{WritesStrictPart}
 use Rattle.wr_io.specs.declared.ends.Failed.{Failed}
 use Rattle.frame_replay.specs.Framing.{Front, transaction, closing, broken, front_of, sized_front, Framing, framing, framed_size}
 use Rattle.frame_replay.specs.Answers.{record_of, records_of, next_scene, closing_mark}
-use Rattle.frame_replay.specs.Taking.{StopsWithin, Decides, ReadCause}
-use Rattle.frame_replay.specs.Steps.{Appended, IsFront, WroteWhole, Found, nothing, whole, close, owed, Stepped, scene_after, with_front, Progress, body_answers, all_but_last, IsPartOf, Ended}
+use Rattle.frame_replay.specs.Taking.{StopsWithin, IsTransaction, Decides, ReadCause}
+use Rattle.frame_replay.specs.Steps.{Appended, IsFront, WroteWhole, Found, nothing, whole, close, owed, Stepped, scene_after, with_front, Progress, body_answers, all_but_last, IsPartOf, FramesOneMore, Ended}
 use Rattle.frame_replay.specs.declared.scene.Scene.{Scene}
 use Rattle.frame_replay.specs.declared.input.Record.{Record}
 use Rattle.frame_replay.specs.declared.input.Record.TheVariants.{Transaction, Closing}
 use Rattle.frame_replay.specs.declared.status.Stop.{Stop}
 use Rattle.frame_replay.specs.declared.status.Stop.TheVariants.{Usage, BrokenInput, ReadFailed, WriteFailed, OutOfMemory}
-use Rattle.frame_replay.proofs.Taken.{stops_behind}
+use Rattle.frame_replay.proofs.Taken.{stops_more, stops_behind}
 use Rattle.frame_replay.proofs.Fronts.{but_last_front, but_last_behind, framed_size_last, front_size, front_more, cut_front}
 
 -- ---- what was written
@@ -224,11 +224,14 @@ module _ (all n : ℕ) (start mid : Scene) (w0 w1 w2 : Option (List ℕ)) (t r u
       let records = ap (λ ps. records_of ps start) (append-nil p.done) in
       rw (body, records) (appended_more w0 w1 w2 (records_of p.done start) [] p.wrote w)
 
-  -- so many bytes were taken to see it
-  stopped_within : framing all (t ++ u) ≡ record { payloads = p.done ++ []; after = None } → StopsWithin 5 u s → StopsWithin (5 + framed_size (framing all (t ++ u)).payloads) (t ++ u) s
+  -- so many bytes were taken to see it, or a transaction more was cut off
+  stopped_within : framing all (t ++ u) ≡ record { payloads = p.done ++ []; after = None } → StopsWithin 5 (IsTransaction (front_of (nat_lt 0 n))) u s
+      → StopsWithin (5 + framed_size (framing all (t ++ u)).payloads) (FramesOneMore all (framing all (t ++ u)).payloads) (t ++ u) s
   stopped_within one h =
-      let size : framed_size p.done + 5 ≡ 5 + framed_size (framing all (t ++ u)).payloads = rw (one, append-nil p.done) (omega arith) in
-      rw (← size) (stops_behind (framed_size p.done) 5 t u s (omega (arith, p.size)) h)
+      let done : (framing all (t ++ u)).payloads ≡ p.done = ap (λ g. g.payloads) one ∙ append-nil p.done in
+      let more : (tail : List ℕ) → IsTransaction (front_of (nat_lt 0 n)) (u ++ tail) → FramesOneMore all p.done ((t ++ u) ++ tail) = λ tail w. (w.0, ap (λ g. g.payloads) (framed_as tail (record { payloads = w.0 ∷ []; after = None }) (framing_whole n (u ++ tail) w.0 w.1))) in
+      rw done (stops_more (framed_size p.done + 5) (5 + framed_size p.done) (FramesOneMore all p.done) (t ++ u) s (omega arith)
+      (stops_behind (framed_size p.done) 5 (FramesOneMore all p.done) (IsTransaction (front_of (nat_lt 0 n))) t u s (omega (arith, p.size)) more h))
 
   -- The framing is broken.
   pub ended_broken : (next : Scene) → Stepped (nat_lt 0 n) mid next w1 w2 (Err BrokenInput) u s → Ended all start w0 w2 (Err BrokenInput) (t ++ u) s

@@ -1,10 +1,10 @@
 -- How takings follow one another.
-use Rattle.std.proofs.Common.{◌≡◌, ◌≢◌, ℕ, ◌+◌, ◌≤◌, ◌<◌, List, [], ◌∷◌, ◌++◌, Bool, true, false, Option, Some, None, IfSome, inl, inr, Result, Ok, Err, length, take, drop, refl, sym, ap, ◌∙◌, arith, append_assoc, append-nil, length-append, length-take-le, take-append-drop}
-use Rattle.std.proofs.lemmas.List.{take_at, drop_at}
+use Rattle.std.proofs.Common.{◌≡◌, ◌≢◌, ℕ, ◌+◌, ◌-◌, ◌≤◌, ◌<◌, List, [], ◌∷◌, ◌++◌, Bool, true, false, Option, Some, None, IfSome, inl, inr, Result, Ok, Err, length, take, drop, replicate, refl, sym, ap, ◌∙◌, arith, append_assoc, append-nil, length-append, length-take-le, take-append-drop}
+use Rattle.std.proofs.lemmas.List.{take_at, drop_at, length-replicate}
 use Rattle.std.proofs.lemmas.Bool.Decides.{nat_tests}
 use Rattle.wr_io.specs.Ends.{LeavesSome}
 use Rattle.frame_replay.specs.Framing.{Front, transaction, closing, broken, front_of, sized_front, payload_front}
-use Rattle.frame_replay.specs.Taking.{Took, Gets, GetsTag, StopsWithin, Decides}
+use Rattle.frame_replay.specs.Taking.{Took, Gets, GetsTag, StopsWithin, IsTransaction, Decides}
 use Rattle.frame_replay.specs.declared.status.Stop.{Stop}
 use Rattle.frame_replay.specs.declared.status.Stop.TheVariants.{Usage, BrokenInput, ReadFailed, WriteFailed, OutOfMemory}
 
@@ -44,14 +44,16 @@ nothing_taken None P f = tt
 nothing_taken (Some b) P f = record { taken = []; rest = b; split = refl; now = refl; fact = f b }
 
 -- more may be taken
-pub stops_more : (few many : ℕ) (t r : List ℕ) → few ≤ many → StopsWithin few t r → StopsWithin many t r
-stops_more few many t r le (inl end) = inl end
-stops_more few many t r le (inr l) = inr (omega (arith, l))
+pub stops_more : (few many : ℕ) (P : List ℕ → Type 0) (t r : List ℕ) → few ≤ many → StopsWithin few P t r → StopsWithin many P t r
+stops_more few many P t r le (inl l) = inl (omega (arith, l))
+stops_more few many P t r le (inr cut) = inr cut
 
 -- what was taken before counts too
-pub stops_behind : (few more : ℕ) (t u s : List ℕ) → length t ≤ few → StopsWithin more u s → StopsWithin (few + more) (t ++ u) s
-stops_behind few more t u s le (inl end) = inl end
-stops_behind few more t u s le (inr l) = inr (omega (arith, l, length-append t u))
+pub stops_behind : (few more : ℕ) (P Q : List ℕ → Type 0) (t u s : List ℕ) → length t ≤ few → ((tail : List ℕ) → Q (u ++ tail) → P ((t ++ u) ++ tail))
+    → StopsWithin more Q u s → StopsWithin (few + more) P (t ++ u) s
+stops_behind few more P Q t u s le f (inl l) = inl (omega (arith, l, length-append t u))
+stops_behind few more P Q t u s le f (inr cut) =
+    inr (record { ended = cut.ended; tail = cut.tail; whole = f cut.tail cut.whole })
 
 -- a whole payload stands in front
 pub payload_whole : (n : ℕ) (t tail : List ℕ) → n ≤ 67108864 → length t ≡ n → payload_front n (t ++ tail) ≡ transaction t tail
@@ -65,25 +67,33 @@ payload_whole n t tail limit len =
 pub payload_short : (n : ℕ) (t : List ℕ) → length t < n → payload_front n t ≡ broken
 payload_short n t short = grind (arith, nat_tests)
 
+-- more bytes make it one
+payload_cut_off : (n : ℕ) (t s : List ℕ) → n ≤ 67108864 → length t < n → s ≡ [] → StopsWithin 0 (IsTransaction (payload_front n)) t s
+payload_cut_off n t s limit short end =
+    let none : ℕ = 0 in
+    let more = replicate (n - length t) none in
+    let size : length (t ++ more) ≡ n = omega (arith, short, length-append t more, length-replicate (n - length t) none) in
+    inr (record { ended = end; tail = more; whole = (t ++ more, ap (payload_front n) (sym (append-nil (t ++ more))) ∙ payload_whole n (t ++ more) [] limit size) })
+
 -- what was taken after part of a payload, and is no whole payload with it
-pub payload_cut : (e : Stop) (n count : ℕ) (found : Unit {0} → List ℕ → Front) (before now t r u s : List ℕ) → length before + count ≤ n → r ≡ u ++ s → before ≡ t
+pub payload_cut : (e : Stop) (n count : ℕ) (found : Unit {0} → List ℕ → Front) (before now t r u s : List ℕ) → n ≤ 67108864 → length before + count ≤ n → r ≡ u ++ s → before ≡ t
     → Gets {X = Unit {0}} (Err e) count before now u s → Decides 0 (payload_front n) found (Err e) (t ++ u) s
-payload_cut BrokenInput n count found before now t r u s room split same got =
+payload_cut BrokenInput n count found before now t r u s limit room split same got =
     let few : length u < count = got.0 in
     let len = ap length same in
     let short : length (t ++ u) < n = omega (arith, length-append t u) in
     let e = payload_short n (t ++ u) short in
-    (e, ap (λ x. payload_front n ((t ++ u) ++ x)) got.1 ∙ ap (payload_front n) (append-nil (t ++ u)) ∙ e, inl got.1)
-payload_cut Usage n count found before now t r u s room split same few =
+    (e, ap (λ x. payload_front n ((t ++ u) ++ x)) got.1 ∙ ap (payload_front n) (append-nil (t ++ u)) ∙ e, payload_cut_off n (t ++ u) s limit short got.1)
+payload_cut Usage n count found before now t r u s limit room split same few =
     let len = ap length same in
     payload_short n (t ++ u) (omega (arith, length-append t u))
-payload_cut ReadFailed n count found before now t r u s room split same few =
+payload_cut ReadFailed n count found before now t r u s limit room split same few =
     let len = ap length same in
     payload_short n (t ++ u) (omega (arith, length-append t u))
-payload_cut WriteFailed n count found before now t r u s room split same few =
+payload_cut WriteFailed n count found before now t r u s limit room split same few =
     let len = ap length same in
     payload_short n (t ++ u) (omega (arith, length-append t u))
-payload_cut OutOfMemory n count found before now t r u s room split same few =
+payload_cut OutOfMemory n count found before now t r u s limit room split same few =
     let len = ap length same in
     payload_short n (t ++ u) (omega (arith, length-append t u))
 
@@ -92,7 +102,7 @@ pub then_decides : {X : Type 0} (few more : ℕ) (f g : List ℕ → Front) (fou
     → ((tail : List ℕ) → f (t ++ tail) ≡ g tail) → Decides more g found result u s → Decides (few + more) f found result (t ++ u) s
 then_decides few more f g found (Ok x) t r u s split le h q = λ tail. ap f (append_assoc t u tail) ∙ h (u ++ tail) ∙ q tail
 then_decides few more f g found (Err BrokenInput) t r u s split le h q =
-    (h u ∙ q.0, ap f (append_assoc t u s) ∙ h (u ++ s) ∙ q.1, stops_behind few more t u s le q.2)
+    (h u ∙ q.0, ap f (append_assoc t u s) ∙ h (u ++ s) ∙ q.1, stops_behind few more (IsTransaction f) (IsTransaction g) t u s le (λ tail w. (w.0, ap f (append_assoc t u tail) ∙ h (u ++ tail) ∙ w.1)) q.2)
 then_decides few more f g found (Err Usage) t r u s split le h q = h u ∙ q
 then_decides few more f g found (Err ReadFailed) t r u s split le h q = h u ∙ q
 then_decides few more f g found (Err WriteFailed) t r u s split le h q = h u ∙ q
@@ -111,7 +121,8 @@ same_error most f found other OutOfMemory t r q = q
 pub no_tag : {X : Type 0} (may_stand : Bool) (found : X → List ℕ → Front) (e : Stop) (t r : List ℕ) → GetsTag (Err e) t r → Decides 5 (front_of may_stand) found (Err e) t r
 unfolding front_of
 no_tag may_stand found BrokenInput t r q =
-    (ap (front_of may_stand) q.0, ap (front_of may_stand) (ap (λ x. x ++ r) q.0 ∙ q.1), inl q.1)
+    let len = ap length q.0 in
+    (ap (front_of may_stand) q.0, ap (front_of may_stand) (ap (λ x. x ++ r) q.0 ∙ q.1), inl (omega (arith, len)))
 no_tag may_stand found Usage t r q = ap (front_of may_stand) q
 no_tag may_stand found ReadFailed t r q = ap (front_of may_stand) q
 no_tag may_stand found WriteFailed t r q = ap (front_of may_stand) q

@@ -1,5 +1,5 @@
 -- What a run leaves, by its status.
-use Rattle.std.specs.Prelude.{◌≡◌, ℕ, ◌+◌, List, [], ◌∷◌, ◌++◌, map, codes, length, true, false, ◌==◌, if◌then◌else◌, Option, Some, None, MatchOption, ◌⊎◌, Result, Ok, Err, String}
+use Rattle.std.specs.Prelude.{◌≡◌, ℕ, ◌+◌, ◌≤◌, List, [], ◌∷◌, ◌++◌, map, codes, length, true, false, ◌==◌, if◌then◌else◌, Option, Some, None, MatchOption, ◌⊎◌, Result, Ok, Err, String}
 use Rattle.std.specs.Global.{Global}
 use Rattle.std.specs.String.{string_bytes}
 use Rattle.frame_replay.specs.Framing.{has_magic, payloads_of, after_closing, output_magic, framed_size}
@@ -10,10 +10,10 @@ use Rattle.frame_replay.specs.Steps.{Appended, IsFront, all_but_last}
 use Rattle.frame_replay.specs.declared.status.Stop.{Stop}
 use Rattle.frame_replay.specs.declared.status.Stop.TheVariants.{Usage, BrokenInput, ReadFailed, WriteFailed, OutOfMemory}
 
--- Four bytes were taken that are the magic, or what was taken isn't it, nor the input where that is what stopped it: then four bytes were taken, or all there were.
+-- Four bytes were taken that are the magic, or what was taken isn't it, nor the input where that is what stopped it: then at most four bytes were taken.
 abbrev pub Opens : Result (Unit {0}) Stop → List ℕ → List ℕ → Type 0
 Opens (Ok _) taken rest = (length taken ≡ 4) × ((tail : List ℕ) → has_magic (taken ++ tail) ≡ true)
-Opens (Err BrokenInput) taken rest = (has_magic taken ≡ false) × (has_magic (taken ++ rest) ≡ false) × StopsWithin 4 taken rest
+Opens (Err BrokenInput) taken rest = (has_magic taken ≡ false) × (has_magic (taken ++ rest) ≡ false) × (length taken ≤ 4)
 Opens (Err Usage) taken rest = has_magic taken ≡ false
 Opens (Err ReadFailed) taken rest = has_magic taken ≡ false
 Opens (Err WriteFailed) taken rest = has_magic taken ≡ false
@@ -34,12 +34,16 @@ pub record IsAnswered (old new : Option (List ℕ)) (taken rest : List ℕ) : Ty
   pub closed : after_closing taken ≡ Some []
   pub left : after_closing (taken ++ rest) ≡ Some rest
 
--- All answers to what was taken were written, and they are those to the input, whose framing is broken. Where the input goes on, no more was taken than the magic, the whole transactions and five bytes, so none of a payload that is too long.
+-- an input that holds these whole transactions and one more
+abbrev pub HasOneMore : List (List ℕ) → List ℕ → Type 0
+HasOneMore payloads input = (payload : List ℕ) × (payloads_of input ≡ payloads ++ payload ∷ [])
+
+-- All answers to what was taken were written, and they are those to the input, whose framing is broken. No more was taken than the magic, the whole transactions and five bytes, or the input ended inside a transaction that more bytes would have made whole. So no byte is taken of a payload that is too long.
 pub record IsBroken (old new : Option (List ℕ)) (taken rest : List ℕ) : Type 0 where
   pub wrote : Appended old new (answers taken)
   pub all : answers (taken ++ rest) ≡ answers taken
   pub broken : after_closing (taken ++ rest) ≡ None
-  pub reached : StopsWithin (9 + framed_size (payloads_of taken)) taken rest
+  pub reached : StopsWithin (9 + framed_size (payloads_of taken)) (HasOneMore (payloads_of taken)) taken rest
 
 -- All answers to what was taken were written, and it has no closing byte.
 pub record IsCut (old new : Option (List ℕ)) (taken : List ℕ) : Type 0 where

@@ -3,7 +3,7 @@ use Rattle.std.specs.Prelude.{◌≡◌, ℕ, ◌+◌, ◌-◌, ◌<◌, List, [
 use Rattle.wr_io.specs.Ends.{HasFault}
 use Rattle.frame_replay.specs.Framing.{transaction, closing, broken, front_of, Framing, framing, framed_size}
 use Rattle.frame_replay.specs.Answers.{record_of, records_of, next_scene, closing_mark}
-use Rattle.frame_replay.specs.Taking.{StopsWithin}
+use Rattle.frame_replay.specs.Taking.{StopsWithin, IsTransaction}
 use Rattle.frame_replay.specs.declared.scene.Scene.{Scene}
 use Rattle.frame_replay.specs.declared.status.Stop.{Stop}
 use Rattle.frame_replay.specs.declared.status.Stop.TheVariants.{Usage, BrokenInput, ReadFailed, WriteFailed, OutOfMemory}
@@ -58,7 +58,7 @@ Stepped may_stand scene next old new (Ok Closing) taken rest =
     ((tail : List ℕ) → front_of may_stand (taken ++ tail) ≡ closing tail) × Appended old new (90 ∷ [])
 Stepped may_stand scene next old new (Err Usage) taken rest = ⊥
 Stepped may_stand scene next old new (Err BrokenInput) taken rest =
-    (front_of may_stand taken ≡ broken) × (front_of may_stand (taken ++ rest) ≡ broken) × StopsWithin 5 taken rest × Appended old new []
+    (front_of may_stand taken ≡ broken) × (front_of may_stand (taken ++ rest) ≡ broken) × StopsWithin 5 (IsTransaction (front_of may_stand)) taken rest × Appended old new []
 Stepped may_stand scene next old new (Err ReadFailed) taken rest = (front_of may_stand taken ≡ broken) × Appended old new []
 Stepped may_stand scene next old new (Err WriteFailed) taken rest = Stopped may_stand scene old new taken
 Stepped may_stand scene next old new (Err OutOfMemory) taken rest = Stopped may_stand scene old new taken
@@ -96,6 +96,10 @@ pub record IsPartOf (all : ℕ) (scene : Scene) (old new : Option (List ℕ)) (t
   pub has : IsFront (records_of (all_but_last (framing all taken).payloads) scene) out
   pub in_turn : IsFront (records_of (framing all (all_but_last taken)).payloads scene) out
 
+-- bytes that hold these whole transactions and one more
+abbrev pub FramesOneMore : ℕ → List (List ℕ) → List ℕ → Type 0
+FramesOneMore all payloads bytes = (payload : List ℕ) × ((framing all bytes).payloads ≡ payloads ++ payload ∷ [])
+
 -- What was written of the answers to the bytes that were taken: all of them, or a part.
 abbrev pub Ended : ℕ → Scene → Option (List ℕ) → Option (List ℕ) → Result (Unit {0}) Stop → List ℕ → List ℕ → Type 0
 Ended all scene old new (Ok _) taken rest =
@@ -103,7 +107,7 @@ Ended all scene old new (Ok _) taken rest =
 Ended all scene old new (Err Usage) taken rest = ⊥
 Ended all scene old new (Err BrokenInput) taken rest =
     Appended old new (body_answers all scene taken) × ((framing all taken).after ≡ None) × ((framing all (taken ++ rest)).after ≡ None) × (body_answers all scene (taken ++ rest) ≡ body_answers all scene taken)
-    × StopsWithin (5 + framed_size (framing all taken).payloads) taken rest
+    × StopsWithin (5 + framed_size (framing all taken).payloads) (FramesOneMore all (framing all taken).payloads) taken rest
 Ended all scene old new (Err ReadFailed) taken rest = Appended old new (body_answers all scene taken) × ((framing all taken).after ≡ None)
 Ended all scene old new (Err WriteFailed) taken rest = IsPartOf all scene old new taken
 Ended all scene old new (Err OutOfMemory) taken rest = IsPartOf all scene old new taken

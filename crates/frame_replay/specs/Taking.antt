@@ -1,7 +1,7 @@
 -- What reading takes from an input, whether it succeeds or stops.
 use Rattle.std.specs.Prelude.{◌≡◌, ℕ, ◌<◌, ◌≤◌, List, [], ◌∷◌, ◌++◌, length, Option, Some, ◌⊎◌, Result, Ok, Err}
 use Rattle.wr_io.specs.Ends.{HasFault}
-use Rattle.frame_replay.specs.Framing.{Front, broken}
+use Rattle.frame_replay.specs.Framing.{Front, transaction, broken}
 use Rattle.frame_replay.specs.declared.status.Stop.{Stop}
 use Rattle.frame_replay.specs.declared.status.Stop.TheVariants.{Usage, BrokenInput, ReadFailed, WriteFailed, OutOfMemory}
 
@@ -31,14 +31,24 @@ GetsTag (Err ReadFailed) taken rest = taken ≡ []
 GetsTag (Err WriteFailed) taken rest = taken ≡ []
 GetsTag (Err OutOfMemory) taken rest = taken ≡ []
 
--- the input was taken to its end, or at most so many bytes of it
-abbrev pub StopsWithin : ℕ → List ℕ → List ℕ → Type 0
-StopsWithin most taken rest = (rest ≡ []) ⊎ (length taken ≤ most)
+-- The input was taken to its end, and more bytes would have made this of it.
+pub record IsCutOff (Whole : List ℕ → Type 0) (taken rest : List ℕ) : Type 0 where
+  pub ended : rest ≡ []
+  pub tail : List ℕ
+  pub whole : Whole (taken ++ tail)
 
--- What was taken decides what stands in front, whatever follows, or nothing whole does: in what was taken, and in all where that is what stopped it. So many bytes at most were taken to see it, where the input goes on.
+-- at most so many bytes were taken, or the input was cut off
+abbrev pub StopsWithin : ℕ → (List ℕ → Type 0) → List ℕ → List ℕ → Type 0
+StopsWithin most Whole taken rest = (length taken ≤ most) ⊎ IsCutOff Whole taken rest
+
+-- a whole transaction in front, and no more
+abbrev pub IsTransaction : (List ℕ → Front) → List ℕ → Type 0
+IsTransaction front bytes = (payload : List ℕ) × (front bytes ≡ transaction payload [])
+
+-- What was taken decides what stands in front, whatever follows, or nothing whole does: in what was taken, and in all where that is what stopped it. So many bytes at most were taken to see it, or a transaction was cut off.
 abbrev pub Decides : {X : Type 0} → ℕ → (List ℕ → Front) → (X → List ℕ → Front) → Result X Stop → List ℕ → List ℕ → Type 0
 Decides most front found (Ok x) taken rest = (tail : List ℕ) → front (taken ++ tail) ≡ found x tail
-Decides most front found (Err BrokenInput) taken rest = (front taken ≡ broken) × (front (taken ++ rest) ≡ broken) × StopsWithin most taken rest
+Decides most front found (Err BrokenInput) taken rest = (front taken ≡ broken) × (front (taken ++ rest) ≡ broken) × StopsWithin most (IsTransaction front) taken rest
 Decides most front found (Err Usage) taken rest = front taken ≡ broken
 Decides most front found (Err ReadFailed) taken rest = front taken ≡ broken
 Decides most front found (Err WriteFailed) taken rest = front taken ≡ broken

@@ -1,4 +1,4 @@
-use Rattle.std.proofs.Common.{rules, arith, inr, ◌≡◌, ℕ, List, [], true, false, Ok, Err, length, nat_eq, sym, ap, ◌∙◌, append-nil}
+use Rattle.std.proofs.Common.{rules, arith, ◌≡◌, ℕ, List, [], true, false, Ok, Err, length, nat_eq, sym, ap, ◌∙◌, append-nil}
 use Rattle.std.specs.Cmp.Lexicographic.{pointwise}
 use Rattle.std.proofs.lemmas.Result.{err_from_is_err_and}
 use Rattle.frame_replay.specs.Framing.{has_magic, input_magic}
@@ -26,7 +26,7 @@ returns-then-ne-clause-told g c =
     (Gets {X = Unit {0}} (Ok c.in_ok-fill.field-0) 4 [] c.fill.new.out) (Opens (Err BrokenInput))
     (λ t r got.
     let no = λ (tail : List ℕ). magic_is t tail got.0 ∙ ap (pointwise nat_eq input_magic) (sym got.1) ∙ other in
-    (ap has_magic (sym (append-nil t)) ∙ no [], no r, inr (omega (arith, got.0))))
+    (ap has_magic (sym (append-nil t)) ∙ no [], no r, omega (arith, got.0)))
     (rw len at c.in_ok-fill.ensures.told)
 
 pub returns-clause-told : goal.returns-clause-told

@@ -25,5 +25,5 @@ returns-in_err-read_piece-clause-told g c =
     (Gets {X = Unit {0}} (Err c.in_err-read_piece.field-0.0) c.min.result c.loop-source.payload.items c.read_piece.new.payload.items)
     (Decides {X = Unit {0}} 0 (payload_front c.args.length) (λ _. transaction c.read_piece.new.payload.items) (Err c.in_err-read_piece.field-0.0))
     (λ t r u s split same got. payload_cut c.in_err-read_piece.field-0.0 c.args.length c.min.result (λ _. transaction c.read_piece.new.payload.items)
-    c.loop-source.payload.items c.read_piece.new.payload.items t r u s (omega (arith, c.min.ensures, c.len-in-loop-source.ensures)) split same got)
+    c.loop-source.payload.items c.read_piece.new.payload.items t r u s c.requires (omega (arith, c.min.ensures, c.len-in-loop-source.ensures)) split same got)
     c.loop-source.invariant.told c.in_err-read_piece.ensures.told)

@@ -1,4 +1,4 @@
-use Rattle.std.proofs.Common.{rules, arith, List, ℕ, ◌++◌, [], ◌∷◌, sym, ap, ◌∙◌, inr, Ok, Err, append-nil}
+use Rattle.std.proofs.Common.{rules, arith, List, ℕ, ◌++◌, [], ◌∷◌, sym, ap, ◌∙◌, inl, Ok, Err, append-nil}
 use Rattle.std.proofs.lemmas.Result.{err_from_is_err_and}
 use Rattle.frame_replay.specs.Framing.{front_of, sized_front, transaction}
 use Rattle.frame_replay.specs.Records.{met}
@@ -57,7 +57,7 @@ returns-in_default-clause-told g c =
     (Decides 5 (front_of c.args.may_stand) (met c.args.payload.now.items) (Err BrokenInput))
     (λ t r got.
     let other = λ (tail : List ℕ). other_tag c.args.may_stand c.in_ok-read_tag.field-0 t tail got (λ z. absurd (omega (arith, z, c.in-84.is))) (λ _. c.if-may_stand.false) in
-    (ap (front_of c.args.may_stand) (sym (append-nil t)) ∙ other [], other r, inr (omega (arith, one_byte c.in_ok-read_tag.field-0 t got))))
+    (ap (front_of c.args.may_stand) (sym (append-nil t)) ∙ other [], other r, inl (omega (arith, one_byte c.in_ok-read_tag.field-0 t got))))
     c.in_ok-read_tag.ensures.told
 
 pub returns-in_default-2-clause-told : goal.returns-in_default-2-clause-told
@@ -67,5 +67,5 @@ returns-in_default-2-clause-told g c =
     (Decides 5 (front_of c.args.may_stand) (met c.args.payload.now.items) (Err BrokenInput))
     (λ t r got.
     let other = λ (tail : List ℕ). other_tag c.args.may_stand c.in_ok-read_tag.field-0 t tail got (λ z. search rules) (λ z. search rules) in
-    (ap (front_of c.args.may_stand) (sym (append-nil t)) ∙ other [], other r, inr (omega (arith, one_byte c.in_ok-read_tag.field-0 t got))))
+    (ap (front_of c.args.may_stand) (sym (append-nil t)) ∙ other [], other r, inl (omega (arith, one_byte c.in_ok-read_tag.field-0 t got))))
     c.in_ok-read_tag.ensures.told
