@@ -1,0 +1,4 @@
+pub mod MapLaws
+pub mod MapViews
+pub mod PairOrderLaws
+pub mod SequenceLaws

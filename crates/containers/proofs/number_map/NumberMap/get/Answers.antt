@@ -1,0 +1,11 @@
+use Rattle.std.proofs.Common.{◌∙◌, sym, ap}
+use Rattle.std.specs.Ordering.{nat_cmp}
+use Rattle.std.specs.Cmp.{nat_cmp_total}
+use Rattle.std.specs.FinMap as map
+use Rattle.containers.proofs.MapViews.{get_is}
+use Rattle.containers.proofs.number_map.NumberMap.get.Goals as goal
+
+pub returns : goal.returns
+returns g c =
+    c.get.ensures.value ∙ sym (get_is nat_cmp nat_cmp_total c.self.inside.tree.entries c.args.key)
+    ∙ ap (λ m. map.get m c.args.key) c.self.view_is

@@ -1,0 +1,7 @@
+pub mod Clones
+pub mod HeldValue
+pub mod Laws
+pub mod LentEntry
+pub mod LentPairEntry
+pub mod LentValue
+pub mod PairOrder
