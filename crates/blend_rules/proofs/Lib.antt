@@ -2,3 +2,4 @@ pub mod Products
 pub mod Channels
 pub mod Blends
 pub mod Rows
+pub mod Premultiplied

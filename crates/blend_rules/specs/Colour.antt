@@ -1,5 +1,5 @@
 -- Colours of four bytes, premultiplied: what scaling and blending give, in nine modes.
-use Rattle.std.specs.Prelude.{ℕ, ◌+◌, ◌-◌, ◌*◌, ◌/◌, ◌≤◌, min, max, nat_le, if◌then◌else◌}
+use Rattle.std.specs.Prelude.{ℕ, ◌+◌, ◌-◌, ◌*◌, ◌/◌, ◌≤◌, min, max, nat_le, Bool, ◌&&◌, List, [], ◌∷◌, slice_index, if◌then◌else◌}
 use Rattle.blend_rules.specs.declared.colour.Px.{Px}
 use Rattle.blend_rules.specs.declared.mode.Mode.{Mode}
 use Rattle.blend_rules.specs.declared.mode.Mode.TheVariants.{Normal, Multiply, Screen, Overlay, Darken, Lighten, HardLight, Difference, Exclusion}
@@ -9,6 +9,18 @@ pub record IsPremultiplied (p : Px) : Type 0 where
   pub blue : p.b ≤ p.a
   pub green : p.g ≤ p.a
   pub red : p.r ≤ p.a
+
+-- whether no colour byte exceeds alpha
+unfoldable pub is_premultiplied : Px → Bool
+is_premultiplied p = nat_le p.b p.a && nat_le p.g p.a && nat_le p.r p.a
+
+-- the four bytes of a colour, in the order in which they are stored
+unfoldable pub colour_bytes : Px → List ℕ
+colour_bytes p = p.b ∷ (p.g ∷ (p.r ∷ (p.a ∷ [])))
+
+-- the colour whose four bytes stand in a list from a position on
+abbrev pub colour_from : List ℕ → ℕ → Px
+colour_from bytes at = record { b = slice_index bytes at; g = slice_index bytes (at + 1); r = slice_index bytes (at + 2); a = slice_index bytes (at + 3) }
 
 -- the colour without any light or cover
 abbrev pub clear : Px

@@ -1,4 +1,4 @@
-ghost use Rattle.std.specs.Prelude.{◌↔◌, IsTrue};
+ghost use Rattle.std.specs.Prelude.{◌≡◌, ◌↔◌, IsTrue};
 
 /// A premultiplied colour: blue, green, red and alpha, each 0 to 255.
 #[derive(Clone, Copy, Debug, PartialEq, Eq, Hash)]
@@ -10,7 +10,7 @@ pub struct Px {
 }
 
 impl Px {
-    ghost use Rattle.blend_rules.specs.Colour.{IsPremultiplied};
+    ghost use Rattle.blend_rules.specs.Colour.{IsPremultiplied, is_premultiplied};
 
     /// The colour without any light or cover.
     pub const CLEAR: Px = Px {
@@ -21,8 +21,10 @@ impl Px {
     };
 
     /// Whether no colour byte exceeds alpha.
+    #[tactic(auto, using(crate::proofs::Premultiplied::premultiplied_tests), unfolding(crate::specs::Colour::is_premultiplied))]
     pub fn is_premultiplied(self) -> bool
-        ensures { IsTrue result ↔ IsPremultiplied self }
+        ensures value { result ≡ is_premultiplied self }
+        ensures fact { IsTrue result ↔ IsPremultiplied self }
     {
         self.b <= self.a && self.g <= self.a && self.r <= self.a
     }

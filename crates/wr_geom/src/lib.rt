@@ -4,11 +4,13 @@
 //! No call takes memory.
 #![tactic(auto)]
 
+mod limits;
 mod no_memory;
 mod point;
 mod rect;
 mod sides;
 
+pub use limits::{MAX_RADIUS, MAX_RECT_COORDINATE};
 pub use no_memory::NoMemory;
 pub use point::Point;
 pub use rect::Rect;

@@ -1,11 +1,10 @@
 ghost use Rattle.std.specs.Prelude.{◌≡◌, ◌+ℤ◌, ◌&&◌, ◌↔◌, ℤ, IsTrue, IsFalse, IsSome, IfSome, not};
 ghost use Rattle.wr_geom.specs.Bounds.{Bounds, IsRect, IsInRange, HasNoPoint, Covers, holds, has_points, nowhere, intersection, hull, bounding, shifted, area_of};
+ghost use Rattle.wr_geom.specs.Sides.{width_of, height_of};
 
 use super::Point;
+use super::limits::MAX_RECT_COORDINATE;
 use std::marker::Model;
-
-/// The greatest distance of a rectangle's coordinate from 0, in pixels.
-const FARTHEST: i32 = 1 << 29;
 
 /// The points with `x0 <= x < x1` and `y0 <= y < y1`, in whole pixels.
 ///
@@ -39,10 +38,10 @@ impl Rect {
         if x1 < x0 || y1 < y0 {
             return None;
         }
-        if x0 < -FARTHEST || y0 < -FARTHEST {
+        if x0 < -MAX_RECT_COORDINATE || y0 < -MAX_RECT_COORDINATE {
             return None;
         }
-        if FARTHEST < x1 || FARTHEST < y1 {
+        if MAX_RECT_COORDINATE < x1 || MAX_RECT_COORDINATE < y1 {
             return None;
         }
         Some(Rect { x0, y0, x1, y1 })
@@ -104,6 +103,20 @@ impl Rect {
             return false;
         }
         true
+    }
+
+    /// How many pixels lie across it.
+    pub fn width(self) -> u32
+        ensures { result ≡ width_of self }
+    {
+        (self.x1 - self.x0) as u32
+    }
+
+    /// How many pixels lie down it.
+    pub fn height(self) -> u32
+        ensures { result ≡ height_of self }
+    {
+        (self.y1 - self.y0) as u32
     }
 
     /// Its number of points: width times height, in square pixels.

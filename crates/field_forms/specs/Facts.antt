@@ -1,0 +1,36 @@
+-- What holds of the values of fields that pass.
+use Rattle.std.specs.Prelude.{ℕ, ℤ, pos, negsuc, ◌<◌, ◌≤ℤ◌, Option, Some, None}
+use Rattle.blend_rules.specs.declared.colour.Px.{Px}
+use Rattle.blend_rules.specs.Colour.{IsPremultiplied}
+use Rattle.wr_geom.specs.Bounds.{Bounds}
+
+-- within two to the 20th of 0
+pub record IsNear (z : ℤ) : Type 0 where
+  pub low : negsuc 1048575 ≤ℤ z
+  pub high : z ≤ℤ pos 1048576
+
+-- near corners in order
+pub record IsRectangle (b : Bounds) : Type 0 where
+  pub left : IsNear b.x0
+  pub top : IsNear b.y0
+  pub right : IsNear b.x1
+  pub bottom : IsNear b.y1
+  pub across : b.x0 ≤ℤ b.x1
+  pub down : b.y0 ≤ℤ b.y1
+
+-- one of so many, or none
+abbrev pub IsDefined : ℕ → Option ℕ → Type 0
+IsDefined count None = Unit {0}
+IsDefined count (Some n) = n < count
+
+-- each channel is a byte
+pub record AreChannels (p : Px) : Type 0 where
+  pub b : p.b < 256
+  pub g : p.g < 256
+  pub r : p.r < 256
+  pub a : p.a < 256
+
+-- a premultiplied colour of bytes
+pub record IsColour (p : Px) : Type 0 where
+  pub premultiplied : IsPremultiplied p
+  pub byte : p.a < 256

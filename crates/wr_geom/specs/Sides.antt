@@ -1,0 +1,58 @@
+-- Radii of corners and widths of sides, and when they fit a rectangle.
+use Rattle.std.specs.Prelude.{ℕ, ◌+◌, ◌≤◌, ◌-ℤ◌, Bool, ◌&&◌, nat_le, unsigned_abs}
+use Rattle.wr_geom.specs.Bounds.{Bounds}
+use Rattle.wr_geom.specs.declared.sides.Radii.{Radii}
+use Rattle.wr_geom.specs.declared.sides.Widths.{Widths}
+
+-- how many pixels lie across a rectangle
+abbrev pub width_of : Bounds → ℕ
+width_of b = unsigned_abs (b.x1 -ℤ b.x0)
+
+-- how many pixels lie down a rectangle
+abbrev pub height_of : Bounds → ℕ
+height_of b = unsigned_abs (b.y1 -ℤ b.y0)
+
+-- the radii of a rectangle without round corners
+abbrev pub square : Radii
+square = record { tl = (0, 0); tr = (0, 0); br = (0, 0); bl = (0, 0) }
+
+-- neither radius of a corner is greater than 4,096 pixels
+pub record IsSmallCorner (r : ℕ × ℕ) : Type 0 where
+  pub across : r.0 ≤ 4096
+  pub down : r.1 ≤ 4096
+
+-- no radius is greater than 4,096 pixels
+pub record AreSmallRadii (r : Radii) : Type 0 where
+  pub tl : IsSmallCorner r.tl
+  pub tr : IsSmallCorner r.tr
+  pub br : IsSmallCorner r.br
+  pub bl : IsSmallCorner r.bl
+
+-- no width is greater than 4,096 pixels
+pub record AreSmallWidths (w : Widths) : Type 0 where
+  pub top : w.top ≤ 4096
+  pub right : w.right ≤ 4096
+  pub bottom : w.bottom ≤ 4096
+  pub left : w.left ≤ 4096
+
+-- the two radii along each side are together no longer than it
+pub record RadiiFit (b : Bounds) (r : Radii) : Type 0 where
+  pub top : r.tl.0 + r.tr.0 ≤ width_of b
+  pub bottom : r.bl.0 + r.br.0 ≤ width_of b
+  pub left : r.tl.1 + r.bl.1 ≤ height_of b
+  pub right : r.tr.1 + r.br.1 ≤ height_of b
+
+-- opposite widths fit beside each other
+pub record WidthsFit (b : Bounds) (w : Widths) : Type 0 where
+  pub across : w.left + w.right ≤ width_of b
+  pub down : w.top + w.bottom ≤ height_of b
+
+-- whether the radii fit
+unfoldable pub radii_fit : Bounds → Radii → Bool
+radii_fit b r =
+    nat_le (r.tl.0 + r.tr.0) (width_of b) && nat_le (r.bl.0 + r.br.0) (width_of b)
+    && nat_le (r.tl.1 + r.bl.1) (height_of b) && nat_le (r.tr.1 + r.br.1) (height_of b)
+
+-- whether the widths fit
+unfoldable pub widths_fit : Bounds → Widths → Bool
+widths_fit b w = nat_le (w.left + w.right) (width_of b) && nat_le (w.top + w.bottom) (height_of b)
