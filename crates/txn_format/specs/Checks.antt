@@ -50,3 +50,11 @@ pub record IsTxn (t : TxnModel) : Type 0 where
   pub ops : All (λ p. IsOp t.pipeline p.op) t.ops
   pub positions : AreInRow 4 t.ops
   pub len : t.len ≡ length (txn_bytes t)
+
+-- a list's length fits its field
+abbrev pub HasFittingLength : OpModel → Type 0
+HasFittingLength (set_list epoch bytes) = length bytes < 2 ^ 32
+HasFittingLength _ = Unit {0}
+
+pub record FitsLength (p : PlacedModel) : Type 0 where
+  pub fits : HasFittingLength p.op

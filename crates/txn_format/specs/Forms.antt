@@ -163,9 +163,13 @@ placed_form pipeline = do
 
 -- ---- a transaction
 
+-- a pipeline's number
+unfoldable pub pipeline_form : Form ℕ
+pipeline_form = refuse_if (nat_lt 63) code.BadNumber byte
+
 unfoldable pub txn_form : Form TxnModel
 txn_form = do
-  pipeline ← refuse_if (nat_lt 63) code.BadNumber byte
+  pipeline ← pipeline_form
   frame ← flag
   count ← number w16
   ops ← times count (placed_form pipeline)

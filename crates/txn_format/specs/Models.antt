@@ -3,7 +3,8 @@ use Rattle.std.specs.Prelude.{List, map}
 use Rattle.txn_format.specs.declared.op.Op.{Op}
 use Rattle.txn_format.specs.declared.op.Op.TheVariants as op
 use Rattle.txn_format.specs.declared.op.Placed.{Placed}
-use Rattle.txn_format.specs.Txn.{OpModel, PlacedModel, set_list, remove_pipeline, scroll, set_offset, set_opacity, add_image, update_image, delete_image, add_glyph, delete_font, set_view, tile_policy, drop_tiles}
+use Rattle.txn_format.specs.declared.txn.Fields.{Fields}
+use Rattle.txn_format.specs.Txn.{OpModel, PlacedModel, TxnModel, set_list, remove_pipeline, scroll, set_offset, set_opacity, add_image, update_image, delete_image, add_glyph, delete_font, set_view, tile_policy, drop_tiles}
 
 abbrev pub op_model : Op → OpModel
 op_model (op.SetList epoch bytes) = set_list epoch bytes.now
@@ -25,3 +26,6 @@ placed_model p = record { at = p.at; op = op_model p.op }
 
 abbrev pub placed_models : List Placed → List PlacedModel
 placed_models = map placed_model
+
+abbrev pub txn_model : Fields → TxnModel
+txn_model f = record { pipeline = f.pipeline; frame = f.frame; len = f.len; ops = placed_models f.ops.items }

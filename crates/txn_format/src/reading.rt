@@ -5,8 +5,8 @@ ghost use Rattle.field_forms.specs.Form.{read};
 ghost use Rattle.field_forms.specs.Fields.{times};
 ghost use Rattle.field_forms.specs.Outcome.{Gives, Reads, ReadsBy};
 ghost use Rattle.txn_format.specs.Txn.{TxnModel};
-ghost use Rattle.txn_format.specs.Models.{op_model, placed_model, placed_models};
-ghost use Rattle.txn_format.specs.Forms.{scene_op_form, resource_op_form, root_op_form, op_form, placed_form};
+ghost use Rattle.txn_format.specs.Models.{op_model, placed_model, placed_models, txn_model};
+ghost use Rattle.txn_format.specs.Forms.{scene_op_form, resource_op_form, root_op_form, op_form, placed_form, pipeline_form, txn_form};
 ghost use Rattle.txn_format.specs.Grammar.{TxnSpells, TxnFaultIsFirst, txn_at};
 
 use crate::fields::{
@@ -14,6 +14,7 @@ use crate::fields::{
     tile_policy, update_image,
 };
 use crate::limits::MAX_PIPELINE;
+use crate::txn::Fields;
 use crate::{Op, Placed, Txn};
 use field_forms::{Reader, fault};
 use std::alloc::Global;
@@ -91,4 +92,75 @@ fn placed<'a>(reader: &mut Reader<'a>, pipeline: u8) -> Result<Placed<'a>, Decod
     let tag = reader.byte()?;
     let op = op(reader, pipeline, at, tag)?;
     Ok(Placed { at, op })
+}
+
+/// So many operations.
+fn operations<'a>(
+    alloc: Global,
+    reader: &mut Reader<'a>,
+    pipeline: u8,
+    count: u16,
+) -> Result<Vec<Placed<'a>>, DecodeError>
+    ensures { ReadsBy (λ ops. placed_models ops.items) result reader.new (read (times count (placed_form pipeline)) reader.old) }
+{
+    let mut found = Vec::new(alloc);
+    for _ in 0..count {
+        found.push(placed(reader, pipeline)?)?;
+    }
+    Ok(found)
+}
+
+#[tactic(auto, unfolding(crate::specs::Forms::pipeline_form))]
+fn pipeline_number(reader: &mut Reader<'_>) -> Result<u8, DecodeError>
+    ensures { Reads result reader.new (read pipeline_form reader.old) }
+{
+    let at = reader.at();
+    let n = reader.byte()?;
+    if n > MAX_PIPELINE {
+        return Err(fault(Code::BadNumber, at));
+    }
+    Ok(n)
+}
+
+#[tactic(auto, unfolding(crate::specs::Forms::txn_form))]
+fn fields<'a>(alloc: Global, reader: &mut Reader<'a>) -> Result<Fields<'a>, DecodeError>
+    ensures { ReadsBy txn_model result reader.new (read txn_form reader.old) }
+{
+    let pipeline = pipeline_number(reader)?;
+    let frame = reader.flag()?;
+    let count = reader.u16()?;
+    let ops = operations(alloc, reader, pipeline, count)?;
+    let len = reader.at();
+    Ok(Fields {
+        pipeline,
+        frame,
+        len,
+        ops,
+    })
+}
+
+fn read<'a>(alloc: Global, payload: &'a [u8]) -> Result<Txn<'a>, DecodeError>
+    requires { length payload.now ≤ 2 ^ 26 }
+    ensures { Gives result (txn_at payload.now) }
+{
+    let mut reader = Reader::new(payload);
+    let fields = fields(alloc, &mut reader)?;
+    reader.finish()?;
+    Ok(Txn::new(fields))
+}
+
+/// The transaction that the payload spells. There are at most 64 MiB. Lists, images and glyphs are
+/// borrowed from the payload; memory is taken for the operations that were read alone.
+pub fn read_txn<'a>(alloc: Global, payload: &'a [u8]) -> Result<Txn<'a>, DecodeError>
+    requires { length payload.now ≤ 2 ^ 26 }
+    // What is answered is spelled so.
+    ensures found { IfOk result (λ t. TxnSpells t payload.now) }
+    // What is spelled so is answered, unless memory runs out.
+    ensures only { (t : TxnModel) → TxnSpells t payload.now → Gives result (Ok t) }
+    // A fault is the first one.
+    ensures faulty { TxnFaultIsFirst result payload.now }
+    // Which fault it is.
+    ensures exact { Gives result (txn_at payload.now) }
+{
+    read(alloc, payload)
 }

@@ -1,20 +1,26 @@
 //! A transaction that stands.
 
 ghost use Rattle.std.specs.Prelude.{◌≡◌};
-ghost use Rattle.txn_format.specs.Models.{placed_models};
+ghost use Rattle.txn_format.specs.Models.{placed_models, txn_model};
 ghost use Rattle.txn_format.specs.Grammar.{IsTxnSpelled};
 
 use crate::Placed;
 use std::marker::Model;
 
+/// The fields of a transaction, which may be spelled by no payload.
+#[derive(Debug, Drop)]
+pub struct Fields<'a> {
+    pub pipeline: u8,
+    pub frame: bool,
+    pub len: u32,
+    pub ops: Vec<Placed<'a>>,
+}
+
 /// A transaction that some payload of at most 64 MiB spells. Its positions and its length are those of
 /// its spelling.
 #[derive(Debug, Drop)]
 pub struct Txn<'a> {
-    pipeline: u8,
-    frame: bool,
-    len: u32,
-    ops: Vec<Placed<'a>>,
+    fields: Fields<'a>,
 }
 
 impl<'a> Model for Txn<'a> {
@@ -22,25 +28,20 @@ impl<'a> Model for Txn<'a> {
 
     ghost Value = { TxnModel };
 
-    ghost use Rattle.txn_format.specs.Models.{placed_models};
+    ghost use Rattle.txn_format.specs.Models.{txn_model};
     ghost use Rattle.txn_format.specs.Grammar.{IsTxnSpelled};
 
-    ghost view = { λ t. record { pipeline = t.pipeline; frame = t.frame; len = t.len; ops = placed_models t.ops.items } };
+    ghost view = { λ t. txn_model t.fields };
 
-    ghost invariant = { λ t. IsTxnSpelled (record { pipeline = t.pipeline; frame = t.frame; len = t.len; ops = placed_models t.ops.items }) };
+    ghost invariant = { λ t. IsTxnSpelled (txn_model t.fields) };
 }
 
 impl<'a> Txn<'a> {
-    pub(crate) fn new(pipeline: u8, frame: bool, len: u32, ops: Vec<Placed<'a>>) -> Txn<'a>
-        requires { IsTxnSpelled (record { pipeline = pipeline; frame = frame; len = len; ops = placed_models ops.items }) }
-        ensures { result ≡ record { pipeline = pipeline; frame = frame; len = len; ops = placed_models ops.entry.items } }
+    pub(crate) fn new(fields: Fields<'a>) -> Txn<'a>
+        requires { IsTxnSpelled (txn_model fields) }
+        ensures { result ≡ txn_model fields.entry }
     {
-        Txn {
-            pipeline,
-            frame,
-            len,
-            ops,
-        }
+        Txn { fields }
     }
 
     /// The pipeline, at most 63.
@@ -48,14 +49,15 @@ impl<'a> Txn<'a> {
         ensures value { result ≡ self.now.pipeline }
         ensures spelled { IsTxnSpelled self.now }
     {
-        self.pipeline
+        self.fields.pipeline
     }
 
     /// Whether a frame is asked for.
     pub fn frame(&self) -> bool
-        ensures { result ≡ self.now.frame }
+        ensures value { result ≡ self.now.frame }
+        ensures spelled { IsTxnSpelled self.now }
     {
-        self.frame
+        self.fields.frame
     }
 
     /// The payload's length, in bytes.
@@ -63,7 +65,7 @@ impl<'a> Txn<'a> {
         ensures value { result ≡ self.now.len }
         ensures spelled { IsTxnSpelled self.now }
     {
-        self.len
+        self.fields.len
     }
 
     /// The operations in order.
@@ -71,6 +73,6 @@ impl<'a> Txn<'a> {
         ensures value { placed_models result.now ≡ self.now.ops }
         ensures spelled { IsTxnSpelled self.now }
     {
-        self.ops.as_slice()
+        self.fields.ops.as_slice()
     }
 }

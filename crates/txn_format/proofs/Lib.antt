@@ -1,0 +1,3 @@
+pub mod WholeTxns
+pub mod OpSpellings
+pub mod TxnSpellings

@@ -1,0 +1,2 @@
+-- The spelling of each operation.
+use Rattle.std.proofs.Common.{◌≡◌, ℕ}
