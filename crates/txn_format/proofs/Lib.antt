@@ -1,3 +1,4 @@
 pub mod WholeTxns
 pub mod OpSpellings
 pub mod TxnSpellings
+pub mod PutOps

@@ -7,12 +7,10 @@ pub fn txn_spelling_laws()
     ensures spelling { SpellingIsTxn }
     ensures one_txn { OneTxn }
     ensures none_begins { NoTxnBegins }
-{
-}
+{}
 
 /// A payload has one first fault at most, and none where it spells a transaction.
 pub fn txn_fault_laws()
     ensures one_fault { OneTxnFault }
     ensures no_fault { TxnsHaveNoFault }
-{
-}
+{}

@@ -19,11 +19,12 @@ pub fn write_txn(alloc: Global, txn: &Txn<'_>) -> Result<Vec<u8>, NoMemory>
     ensures spelling { IfOk result (λ bytes. bytes.items ≡ txn_bytes txn.now) }
     ensures spelled { IfOk result (λ bytes. TxnSpells txn.now bytes.items) }
 {
+    let ops = txn.ops();
     let mut out = Vec::with_capacity(alloc, txn.len() as usize)?;
     put_byte(&mut out, txn.pipeline())?;
     put_flag(&mut out, txn.frame())?;
-    put_u16(&mut out, txn.ops().len() as u16)?;
-    put_ops(&mut out, txn.ops())?;
+    put_u16(&mut out, ops.len() as u16)?;
+    put_ops(&mut out, ops)?;
     Ok(out)
 }
 
@@ -75,13 +76,7 @@ fn put_opacity(out: &mut Vec<u8>, id: u16, opacity: u8) -> Result<(), AllocError
     put_byte(out, opacity)
 }
 
-fn put_image(
-    out: &mut Vec<u8>,
-    key: u32,
-    w: u16,
-    h: u16,
-    pixels: &[u8],
-) -> Result<(), AllocError>
+fn put_image(out: &mut Vec<u8>, key: u32, w: u16, h: u16, pixels: &[u8]) -> Result<(), AllocError>
     ensures { OnOk result (out.new.items ≡ out.old.items ++ op_bytes (add_image key w h pixels.now)) }
 {
     put_byte(out, 5)?;
