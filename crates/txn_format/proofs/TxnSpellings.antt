@@ -15,7 +15,7 @@ use Rattle.txn_format.specs.Txn.{OpModel, PlacedModel, TxnModel, set_list, remov
 use Rattle.txn_format.specs.Forms.{placed_form, pipeline_form, txn_form}
 use Rattle.txn_format.specs.Grammar.{TxnSpells, IsTxnSpelled}
 use Rattle.txn_format.specs.Spelling.{op_tag, op_fields, op_bytes, placed_bytes, txn_bytes}
-use Rattle.txn_format.specs.Checks.{IsOp, AreInRow, IsTxn, HasFittingLength, FitsLength}
+use Rattle.txn_format.specs.Checks.{IsOp, AreInRow, IsTxn, EndsWithin, HasFittingLength, FitsLength}
 use Rattle.txn_format.proofs.OpSpellings.{op_spelled, op_passes}
 
 -- ---- an operation with its tag
@@ -215,3 +215,25 @@ fits pl drop_tiles h = tt
 
 pub all_fit : (t : TxnModel) → IsTxnSpelled t → All FitsLength t.ops
 all_fit t h = λ k d lt. record { fits = fits t.pipeline _ ((is_txn t h).ops k d lt) }
+
+-- the operations of a row end within their bytes
+row_within : (at len : ℕ) (ps : List PlacedModel) → at + length (flat_map placed_bytes ps) ≤ len → AreInRow at ps → All (EndsWithin len) ps
+row_within at len [] le row = λ k d lt. absurd (omega arith)
+row_within at len (p ∷ ps) le row =
+    let one = placed_bytes p in
+    let parts : length (flat_map placed_bytes (p ∷ ps)) ≡ length one + length (flat_map placed_bytes ps) = length-append one (flat_map placed_bytes ps) in
+    let position = row.0 in
+    All-cons (EndsWithin len) p ps (record { ends = omega (arith, parts, position) }) (row_within (at + length one) len ps (omega (arith, parts)) row.1)
+
+pub all_within : (t : TxnModel) → IsTxn t → All (EndsWithin t.len) t.ops
+all_within t h =
+    let counted = u16_bytes (length t.ops) in
+    let all = flat_map placed_bytes t.ops in
+    row_within 4 t.len t.ops (omega (arith, h.len, two_bytes (length t.ops), length-append counted (all ++ []), length-append all [])) h.positions
+
+pub fits_payload : (t : TxnModel) → IsTxnSpelled t → t.len ≤ 2 ^ 26
+fits_payload t (bytes, le, h) =
+    let s = txn_spelled t bytes h in
+    let long : length bytes ≡ length (txn_bytes t) = ap (λ (o : List ℕ). length o) s.0 in
+    let whole = s.1.len in
+    omega (arith, long, whole)

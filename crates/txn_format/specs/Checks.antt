@@ -51,6 +51,10 @@ pub record IsTxn (t : TxnModel) : Type 0 where
   pub positions : AreInRow 4 t.ops
   pub len : t.len ≡ length (txn_bytes t)
 
+-- an operation's bytes end within so many bytes of the payload
+pub record EndsWithin (len : ℕ) (p : PlacedModel) : Type 0 where
+  pub ends : p.at + length (placed_bytes p) ≤ len
+
 -- a list's length fits its field
 abbrev pub HasFittingLength : OpModel → Type 0
 HasFittingLength (set_list epoch bytes) = length bytes < 2 ^ 32

@@ -1,7 +1,7 @@
 //! The fields behind an operation's tag.
 
-ghost use Rattle.std.specs.Prelude.{◌≡◌, ◌≤◌, IfOk};
-ghost use Rattle.field_forms.specs.Form.{read};
+ghost use Rattle.std.specs.Prelude.{◌≡◌, ◌≤◌, ◌*◌, IfOk};
+ghost use Rattle.field_forms.specs.Form.{piece, read};
 ghost use Rattle.field_forms.specs.Outcome.{Reads, ReadsBy};
 ghost use Rattle.txn_format.specs.Models.{op_model};
 ghost use Rattle.txn_format.specs.Forms.{u16_between, property_id, set_list_form, scroll_form, set_offset_form, set_opacity_form, set_property_form, image_side, add_image_form, update_image_form, delete_image_form, add_glyph_form, delete_font_form, view_side, set_view_form, tile_side, tile_budget, tile_policy_form};
@@ -94,6 +94,15 @@ fn image_side(reader: &mut Reader<'_>) -> Result<u16, DecodeError>
     u16_between(reader, 1, MAX_SIDE, Code::Limit)
 }
 
+/// The bytes of texels, four of each.
+fn texels<'a>(reader: &mut Reader<'a>, w: u16, h: u16) -> Result<&'a [u8], DecodeError>
+    requires width { w ≤ 4096 }
+    requires height { h ≤ 4096 }
+    ensures { ReadsBy (λ bytes. bytes.now) result reader.new (read (piece (4 * (w * h))) reader.old) }
+{
+    reader.bytes(4 * (w as usize * h as usize))
+}
+
 #[tactic(auto, unfolding(crate::specs::Forms::add_image_form))]
 pub fn add_image<'a>(reader: &mut Reader<'a>) -> Result<Op<'a>, DecodeError>
     ensures { ReadsBy op_model result reader.new (read add_image_form reader.old) }
@@ -101,7 +110,7 @@ pub fn add_image<'a>(reader: &mut Reader<'a>) -> Result<Op<'a>, DecodeError>
     let key = reader.u32()?;
     let w = image_side(reader)?;
     let h = image_side(reader)?;
-    let pixels = reader.bytes(4 * (w as usize * h as usize))?;
+    let pixels = texels(reader, w, h)?;
     Ok(Op::AddImage { key, w, h, pixels })
 }
 
@@ -114,7 +123,7 @@ pub fn update_image<'a>(reader: &mut Reader<'a>) -> Result<Op<'a>, DecodeError>
     let y = reader.u16()?;
     let w = image_side(reader)?;
     let h = image_side(reader)?;
-    let pixels = reader.bytes(4 * (w as usize * h as usize))?;
+    let pixels = texels(reader, w, h)?;
     Ok(Op::UpdateImage {
         key,
         x,

@@ -6,6 +6,8 @@ mod laws;
 mod limits;
 mod op;
 mod reading;
+#[cfg(test)]
+mod tests;
 mod txn;
 mod writing;
 

@@ -1,8 +1,9 @@
 //! A transaction that stands.
 
-ghost use Rattle.std.specs.Prelude.{◌≡◌};
+ghost use Rattle.std.specs.Prelude.{◌≡◌, ◌≤◌, ◌^◌, All};
 ghost use Rattle.txn_format.specs.Models.{placed_models, txn_model};
 ghost use Rattle.txn_format.specs.Grammar.{IsTxnSpelled};
+ghost use Rattle.txn_format.specs.Checks.{IsTxn, EndsWithin};
 
 use crate::Placed;
 use std::marker::Model;
@@ -60,17 +61,20 @@ impl<'a> Txn<'a> {
         self.fields.frame
     }
 
-    /// The payload's length, in bytes.
+    /// The payload's length, in bytes: at most 64 MiB.
     pub fn len(&self) -> u32
         ensures value { result ≡ self.now.len }
+        ensures bound { result ≤ 2 ^ 26 }
         ensures spelled { IsTxnSpelled self.now }
     {
         self.fields.len
     }
 
-    /// The operations in order.
+    /// The operations in order. Each meets its checks, and ends within the payload.
     pub fn ops(&self) -> &[Placed<'a>]
         ensures value { placed_models result.now ≡ self.now.ops }
+        ensures checked { IsTxn self.now }
+        ensures within { All (EndsWithin self.now.len) self.now.ops }
         ensures spelled { IsTxnSpelled self.now }
     {
         self.fields.ops.as_slice()
