@@ -2,3 +2,4 @@ pub mod WholeTxns
 pub mod OpSpellings
 pub mod TxnSpellings
 pub mod PutOps
+pub mod TxnWithin

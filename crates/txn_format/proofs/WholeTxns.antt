@@ -45,7 +45,7 @@ finished r = next r (λ x. next (nothing_left x.1) (λ _. ok x.0))
 txn_with : (t : TxnModel) (bytes more : List ℕ) → TxnSpells t bytes → txn_at (bytes ++ more) ≡ rest_of t (0 + length bytes) more
 txn_with t bytes more h = ap finished (read_again txn_form 0 bytes more t h)
 
-txn_again : (t : TxnModel) (bytes : List ℕ) → TxnSpells t bytes → txn_at bytes ≡ Ok t
+pub txn_again : (t : TxnModel) (bytes : List ℕ) → TxnSpells t bytes → txn_at bytes ≡ Ok t
 txn_again t bytes h = ap txn_at (sym (append-nil bytes)) ∙ txn_with t bytes [] h
 
 pub one_txn : (t u : TxnModel) (bytes : List ℕ) → TxnSpells t bytes → TxnSpells u bytes → t ≡ u
@@ -69,7 +69,7 @@ ended bytes t x took true h e =
     subst (λ (o : List ℕ). TxnSpells t o) (sym all) (subst (λ (u : TxnModel). TxnSpells u took.front) (ok_is x.0 t f) took.passes)
 ended bytes t x took false h e = let f = rw h at e in absurd cc
 
-txn_found : (bytes : List ℕ) (t : TxnModel) → AreBytes bytes → txn_at bytes ≡ Ok t → TxnSpells t bytes
+pub txn_found : (bytes : List ℕ) (t : TxnModel) → AreBytes bytes → txn_at bytes ≡ Ok t → TxnSpells t bytes
 txn_found bytes t k e =
     let a = next_ok (read txn_form (whole bytes)) (λ x. next (nothing_left x.1) (λ _. ok x.0)) t e in
     ended bytes t a.0 (read_took txn_form (whole bytes) a.0 k a.1) (eqb (length a.0.1.bytes) 0) refl a.2
@@ -91,7 +91,7 @@ surplus_at bytes f x took false h e =
     let place : x.1.at ≡ length took.front = let p = took.place in omega (arith, p) in
     subst (λ (d : Fault). IsFirstTxnFault bytes d.code d.at) same (surplus x.0 took.front x.1.bytes took.parts (some_left _ h) took.passes refl place)
 
-txn_failed : (bytes : List ℕ) (f : Fault) → AreBytes bytes → txn_at bytes ≡ Err f → IsFirstTxnFault bytes f.code f.at
+pub txn_failed : (bytes : List ℕ) (f : Fault) → AreBytes bytes → txn_at bytes ≡ Err f → IsFirstTxnFault bytes f.code f.at
 txn_failed bytes f k e =
     elim (next_failed (read txn_form (whole bytes)) (λ x. next (nothing_left x.1) (λ _. ok x.0)) f e) [
       | inl d ↦ refused (read_refused txn_form (whole bytes) f k d)
@@ -104,7 +104,7 @@ rest_fails : (t : TxnModel) (at : ℕ) (more : List ℕ) → 0 < length more →
 rest_fails t at [] lt = absurd (omega arith)
 rest_fails t at (b ∷ more) lt = let some : eqb (suc (length more)) 0 ≡ false = grind arith in rw some refl
 
-fault_again : (bytes : List ℕ) (c : Code) (p : ℕ) → IsFirstTxnFault bytes c p → txn_at bytes ≡ fault c p
+pub fault_again : (bytes : List ℕ) (c : Code) (p : ℕ) → IsFirstTxnFault bytes c p → txn_at bytes ≡ fault c p
 fault_again bytes c p (refused h) = ap finished (refused_again txn_form 0 bytes c p h)
 fault_again bytes c p (surplus t front more e lt spells w v) =
     let place : 0 + length front ≡ p = omega (arith, v) in

@@ -11,7 +11,7 @@ mod tests;
 mod txn;
 mod writing;
 
-pub use laws::{txn_fault_laws, txn_spelling_laws};
+pub use laws::{txn_fault_laws, txn_reading_laws, txn_spelling_laws};
 pub use limits::{
     MAX_PAYLOAD_BYTES, MAX_PIPELINE, MAX_SIDE, MAX_TILE_PIXELS, MAX_TILE_SIDE, MAX_TILES,
     MIN_TILE_SIDE,

@@ -166,6 +166,7 @@ fn every_operation_twice(rt: HostRuntime) -> Result<(), Fail> {
     assert!(rt; is_written_again(rt.alloc(), &WHOLE));
     txn_spelling_laws();
     txn_fault_laws();
+    txn_reading_laws();
     Ok(())
 }
 
