@@ -1,6 +1,8 @@
 -- The tokens of growing trees.
-use Rattle.std.proofs.Common.{◌≡◌, List, length, [], ◌∷◌, ◌++◌, map, refl, sym, ap, ◌∙◌, append_assoc}
+use Rattle.std.proofs.Common.{◌≡◌, ◌<◌, arith, List, length, [], ◌∷◌, ◌++◌, map, refl, sym, ap, ◌∙◌, append_assoc}
+use Rattle.std.specs.Prelude.{All}
 use Rattle.std.proofs.lemmas.List.{append-nil, nil_from_length}
+use Rattle.std.proofs.lemmas.List.Elements.{All-cons, All-head, All-tail}
 use Rattle.std.specs.Global.{Vec}
 use Rattle.display_list.specs.declared.token.Token.{Token}
 use Rattle.display_list.specs.declared.token.Token.TheVariants as token
@@ -10,7 +12,7 @@ use Rattle.display_list.specs.declared.item.Item.TheVariants.{Context, rolls-Con
 use Rattle.display_list.specs.declared.item.Item.TheOpen.{Item-F}
 use Rattle.display_list.specs.declared.item.Item.TheFolds.{fold-roll-Item}
 use Rattle.display_list.specs.declared.builder.Open.{Open}
-use Rattle.display_list.specs.Tree.{joined, tokens_step, item_tokens, tokens_of, open_tokens}
+use Rattle.display_list.specs.Tokens.{joined, tokens_step, item_tokens, tokens_of, open_tokens}
 
 pub joined-map : (is : List Item) → joined (map item_tokens is) ≡ tokens_of is
 unfolding tokens_of
@@ -56,3 +58,10 @@ pop_step os o children = rw (tokens_of-push o.before.items (context_of o.push ch
 pub closed : (os : List Open) (is : List Item) → length os ≡ 0 → open_tokens os ++ tokens_of is ≡ tokens_of is
 unfolding open_tokens
 closed os is h = rw (nil_from_length os h) refl
+
+-- a fact of each of two parts
+pub all_split : (P : Token → Type 0) (xs ys : List Token) → All P (xs ++ ys) → All P xs × All P ys
+all_split P [] ys h = (λ k d lt. absurd (omega arith), h)
+all_split P (x ∷ xs) ys h =
+    let rest = all_split P xs ys (All-tail P x (xs ++ ys) h) in
+    (All-cons P x xs (All-head P x (xs ++ ys) h) rest.0, rest.1)

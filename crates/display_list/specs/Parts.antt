@@ -1,11 +1,11 @@
--- The parts of a list: their fields and checks, behind what stands before them.
+-- The parts of a list: their fields and checks, after what stands before them.
 use Rattle.std.specs.Prelude.{ℕ, ◌+◌, Bool, true, false, length, Option, Some, None, nat_lt, nat_le, ◌==◌, slice_index, if◌then◌else◌}
 use Rattle.std.specs.List.{list_any}
 use Rattle.std.specs.Int.{w16, w32}
 use Rattle.wr_io.specs.declared.fault.Code.TheVariants as code
 use Rattle.blend_rules.specs.declared.mode.Mode.{Mode}
 use Rattle.blend_rules.specs.declared.mode.Mode.TheVariants.{Normal, Multiply, Screen, Overlay, Darken, Lighten, HardLight, Difference, Exclusion}
-use Rattle.wr_geom.specs.declared.sides.Radii.{Radii}
+use Rattle.wr_geom.specs.Sides.{square}
 use Rattle.display_list.specs.declared.node.Node.{Node}
 use Rattle.display_list.specs.declared.node.Node.TheVariants as node
 use Rattle.display_list.specs.declared.node.ClipDef.{ClipDef}
@@ -15,62 +15,48 @@ use Rattle.display_list.specs.declared.token.Token.TheVariants as token
 use Rattle.display_list.specs.declared.token.Push.{Push}
 use Rattle.display_list.specs.declared.token.Part.{Part}
 use Rattle.display_list.specs.declared.token.Part.TheVariants as part
-use Rattle.display_list.specs.Form.{Form, done, here, refuse, choose, bind, ◌>>=◌}
-use Rattle.display_list.specs.Numbers.{byte, number}
-use Rattle.display_list.specs.Fields.{times, reference, optional_reference, property, place, rectangle, colour, corner_radii, border_widths, side, spot, glyph}
-use Rattle.display_list.specs.Standing.{Standing, has_sid, inherited, takes_nodes, takes_clips, takes_chains}
+use Rattle.field_forms.specs.Form.{Form, done, here, refuse, choose, bind, ◌>>=◌}
+use Rattle.field_forms.specs.Numbers.{byte, number}
+use Rattle.field_forms.specs.Fields.{refuse_if, times, flag, reference, optional_reference, optional_number, coordinate, rectangle, colour}
+use Rattle.display_list.specs.Fields.{corner_radii, border_widths, scroll_side, spot, glyph}
+use Rattle.display_list.specs.Levels.{has_scroll, inherited}
+use Rattle.display_list.specs.PartialList.{PartialList, takes_nodes, takes_clips, takes_chains}
 
 -- ---- definitions
 
 -- a node's parent, of which the level is below 64
-unfoldable pub parent_node : Standing → Form ℕ
-parent_node s = do
-  at ← here
-  n ← reference (length s.levels)
-  choose (nat_le 64 (slice_index s.levels n)) (refuse code.Limit at) (done n)
+unfoldable pub parent_node : PartialList → Form ℕ
+parent_node s = refuse_if (λ n. nat_le 64 (slice_index s.levels n)) code.Limit (reference (length s.levels))
 
-unfoldable pub reference_frame : Standing → Form Node
+unfoldable pub reference_frame : PartialList → Form Node
 reference_frame s = do
   parent ← parent_node s
-  x ← place
-  y ← place
-  prop ← property
+  x ← coordinate
+  y ← coordinate
+  prop ← optional_number
   done (node.Reference parent x y prop)
 
 -- a scroll number that no earlier node has
-unfoldable pub scroll_number : Standing → Form ℕ
-scroll_number s = do
-  at ← here
-  sid ← number w16
-  choose (list_any (has_sid sid) s.nodes) (refuse code.BadRef at) (done sid)
+unfoldable pub scroll_number : PartialList → Form ℕ
+scroll_number s = refuse_if (λ sid. list_any (has_scroll sid) s.nodes) code.BadRef (number w16)
 
-unfoldable pub scroll_frame : Standing → Form Node
+unfoldable pub scroll_frame : PartialList → Form Node
 scroll_frame s = do
   parent ← parent_node s
   sid ← scroll_number s
-  view_w ← side
-  view_h ← side
-  content_w ← side
-  content_h ← side
+  view_w ← scroll_side
+  view_h ← scroll_side
+  content_w ← scroll_side
+  content_h ← scroll_side
   done (node.Scroll parent sid view_w view_h content_w content_h)
 
-abbrev pub no_radii : Radii
-no_radii = record { tl = (0, 0); tr = (0, 0); br = (0, 0); bl = (0, 0) }
-
-unfoldable pub rect_clip : Standing → Form ClipDef
+unfoldable pub rect_clip : PartialList → Form ClipDef
 rect_clip s = do
   node ← reference (length s.levels)
   rect ← rectangle
-  done (record { node = node; out = false; round = false; rect = rect; radii = no_radii })
+  done (record { node = node; out = false; round = false; rect = rect; radii = square })
 
--- a byte that is 0 or 1
-unfoldable pub flag : Form Bool
-flag = do
-  at ← here
-  n ← byte
-  choose (nat_lt 1 n) (refuse code.BadNumber at) (done (n == 1))
-
-unfoldable pub round_clip : Standing → Form ClipDef
+unfoldable pub round_clip : PartialList → Form ClipDef
 round_clip s = do
   node ← reference (length s.levels)
   out ← flag
@@ -80,12 +66,9 @@ round_clip s = do
 
 -- how many clips a chain has of its own: with its parents' at most 255
 unfoldable pub clip_count : ℕ → Form ℕ
-clip_count more = do
-  at ← here
-  count ← byte
-  choose (nat_lt 255 (more + count)) (refuse code.Limit at) (done count)
+clip_count more = refuse_if (λ count. nat_lt 255 (more + count)) code.Limit byte
 
-unfoldable pub chain : Standing → Form ChainDef
+unfoldable pub chain : PartialList → Form ChainDef
 chain s = do
   parent ← optional_reference (length s.totals)
   count ← clip_count (inherited s.totals parent)
@@ -96,17 +79,17 @@ chain s = do
 abbrev pub definition_of : {A : Type 0} → Bool → ℕ → ℕ → Form A → Form A
 definition_of in_section count at f = choose in_section (choose (nat_le 4096 count) (refuse code.Limit at) f) (refuse code.BadTag at)
 
-unfoldable pub node_part : Standing → ℕ → ℕ → Form Node
+unfoldable pub node_part : PartialList → ℕ → ℕ → Form Node
 node_part s at tag = definition_of (takes_nodes s.section) (length s.nodes) at (choose (tag == 1) (reference_frame s) (scroll_frame s))
 
-unfoldable pub clip_part : Standing → ℕ → ℕ → Form ClipDef
+unfoldable pub clip_part : PartialList → ℕ → ℕ → Form ClipDef
 clip_part s at tag = definition_of (takes_clips s.section) (length s.clips) at (choose (tag == 3) (rect_clip s) (round_clip s))
 
-unfoldable pub chain_part : Standing → ℕ → Form ChainDef
+unfoldable pub chain_part : PartialList → ℕ → Form ChainDef
 chain_part s at = definition_of (takes_chains s.section) (length s.chains) at (chain s)
 
 -- by the tag, 1 to 5
-unfoldable pub definition : Standing → ℕ → ℕ → Form Part
+unfoldable pub definition : PartialList → ℕ → ℕ → Form Part
 definition s at tag =
     choose (nat_le tag 2) (bind (node_part s at tag) (λ n. done (part.Node n)))
     (choose (nat_le tag 4) (bind (clip_part s at tag) (λ c. done (part.Clip c))) (bind (chain_part s at) (λ c. done (part.Chain c))))
@@ -155,38 +138,34 @@ mode_of n =
 
 unfoldable pub blend_mode : Form Mode
 blend_mode = do
-  at ← here
-  n ← byte
-  choose (nat_lt 8 n) (refuse code.BadMode at) (done (mode_of n))
+  n ← refuse_if (nat_lt 8) code.BadMode byte
+  done (mode_of n)
 
 unfoldable pub push_fields : ℕ → ℕ → Form Push
 push_fields nodes chains = do
   node ← reference nodes
   chain ← optional_reference chains
   opacity ← byte
-  prop ← property
+  prop ← optional_number
   mode ← blend_mode
   isolate ← flag
   done (record { node = node; chain = chain; opacity = opacity; prop = prop; mode = mode; isolate = isolate })
 
 -- within 64 contexts there is none
-unfoldable pub push : Standing → ℕ → Form Token
+unfoldable pub push : PartialList → ℕ → Form Token
 push s at = choose (nat_le 64 s.depth) (refuse code.Limit at) (bind (push_fields (length s.levels) (length s.chains)) (λ p. done (token.Push p)))
 
 unfoldable pub pop : ℕ → ℕ → Form Token
 pop depth at = choose (depth == 0) (refuse code.Nesting at) (done token.Pop)
 
--- a pipeline up to 63, not below the least that may be named
+-- a pipeline up to 63, not below the first that may be named
 unfoldable pub pipeline : ℕ → Form ℕ
-pipeline least = do
-  at ← here
-  n ← byte
-  choose (nat_lt 63 n) (refuse code.BadNumber at) (choose (nat_lt n least) (refuse code.IframeOrder at) (done n))
+pipeline min_pipeline = refuse_if (λ n. nat_lt n min_pipeline) code.IframeOrder (refuse_if (nat_lt 63) code.BadNumber byte)
 
 unfoldable pub iframe : ℕ → ℕ → ℕ → Form Token
-iframe least nodes chains = do
+iframe min_pipeline nodes chains = do
   spot ← spot nodes chains
-  pipeline ← pipeline least
+  pipeline ← pipeline min_pipeline
   done (token.Iframe spot pipeline)
 
 unfoldable pub hit_area : ℕ → ℕ → Form Token
@@ -201,22 +180,22 @@ primitive nodes chains tag =
     choose (tag == 6) (solid nodes chains) (choose (tag == 7) (image nodes chains) (choose (tag == 8) (border nodes chains) (text nodes chains)))
 
 -- by the tag, from 6 on
-unfoldable pub item : ℕ → Standing → ℕ → ℕ → Form Token
-item least s at tag =
+unfoldable pub item : ℕ → PartialList → ℕ → ℕ → Form Token
+item min_pipeline s at tag =
     choose (nat_le tag 9) (primitive (length s.levels) (length s.chains) tag)
     (choose (tag == 10) (push s at)
     (choose (tag == 11) (pop s.depth at)
-    (choose (tag == 12) (iframe least (length s.levels) (length s.chains))
+    (choose (tag == 12) (iframe min_pipeline (length s.levels) (length s.chains))
     (choose (tag == 13) (hit_area (length s.levels) (length s.chains)) (refuse code.BadTag at)))))
 
--- ---- a part, or none at the End, which leaves no context pushed
+-- ---- a part, or none at the End, which leaves no context open
 
 unfoldable pub end : ℕ → ℕ → Form (Option Part)
 end depth at = choose (depth == 0) (done None) (refuse code.Nesting at)
 
-unfoldable pub next_part : ℕ → Standing → Form (Option Part)
-next_part least s = do
+unfoldable pub next_part : ℕ → PartialList → Form (Option Part)
+next_part min_pipeline s = do
   at ← here
   tag ← byte
   choose (tag == 0) (end s.depth at)
-      (choose (nat_le tag 5) (bind (definition s at tag) (λ p. done (Some p))) (bind (item least s at tag) (λ t. done (Some (part.Item t)))))
+      (choose (nat_le tag 5) (bind (definition s at tag) (λ p. done (Some p))) (bind (item min_pipeline s at tag) (λ t. done (Some (part.Item t)))))

@@ -2,52 +2,59 @@
 
 ghost use Rattle.std.specs.Prelude.{◌≡◌, ◌<◌, ◌≤◌, ◌+◌, ◌-◌, ◌++◌, ◌∷◌, [], length, IfOk, OnOk, slice_index, Option};
 ghost use Rattle.std.specs.List.{list_any};
-ghost use Rattle.display_list.specs.Standing.{Standing, start, after, has_sid, parent_of, inherited, takes_nodes, takes_clips, takes_chains, listing_of};
+ghost use Rattle.field_forms.specs.Facts.{IsDefined};
+ghost use Rattle.display_list.specs.Levels.{has_scroll, parent_of, inherited};
+ghost use Rattle.display_list.specs.PartialList.{PartialList, start, after, takes_nodes, takes_clips, takes_chains, list_of};
+ghost use Rattle.display_list.specs.Following.{CanFollow, NodeFollows, ChainFollows, ItemFollows};
 ghost use Rattle.display_list.specs.Grammar.{IsSpelled};
-ghost use Rattle.display_list.specs.Tree.{item_tokens};
-ghost use Rattle.display_list.specs.Fields.{IsChain};
-ghost use Rattle.display_list.specs.Checks.{CanFollow, HasParent, HasRoom, IsToken};
+ghost use Rattle.display_list.specs.Tokens.{item_tokens};
+ghost use Rattle.display_list.specs.Scrolls.{HasScrollsOf};
 
 use crate::token::{Part, Push, Section, Token};
 use crate::{ChainDef, ClipDef, Item, List, Node};
 use std::alloc::{AllocError, Global};
+use std::collections::BTreeSet;
 use std::marker::Model;
 use std::mem;
 
-/// A context that is still pushed, and the items before it.
+/// A context that is open, and the items before it.
 #[derive(Debug, Drop)]
 pub struct Open {
     push: Push,
     before: Vec<Item>,
 }
 
-/// What stands of a list so far.
+/// A list as far as it was read.
 #[derive(Debug, Drop)]
 pub struct Builder {
     section: Section,
     nodes: Vec<Node>,
+    scrolls: BTreeSet<u16>,
     levels: Vec<u8>,
     clips: Vec<ClipDef>,
     chains: Vec<ChainDef>,
     totals: Vec<u8>,
-    pushed: Vec<Open>,
+    contexts: Vec<Open>,
     items: Vec<Item>,
 }
 
 impl Model for Builder {
     ghost use Rattle.std.specs.Prelude.{◌++◌, length};
-    ghost use Rattle.display_list.specs.Standing.{Standing};
+    ghost use Rattle.display_list.specs.PartialList.{PartialList};
 
-    ghost Value = { Standing };
+    ghost Value = { PartialList };
 
-    ghost use Rattle.display_list.specs.Tree.{open_tokens, tokens_of};
+    ghost use Rattle.display_list.specs.Tokens.{open_tokens, tokens_of};
+    ghost use Rattle.display_list.specs.Scrolls.{HasScrollsOf};
 
-    ghost view = { λ b. record { section = b.section; nodes = b.nodes.items; levels = b.levels.items; clips = b.clips.items; chains = b.chains.items; totals = b.totals.items; items = open_tokens b.pushed.items ++ tokens_of b.items.items; depth = length b.pushed.items } };
+    ghost view = { λ b. record { section = b.section; nodes = b.nodes.items; levels = b.levels.items; clips = b.clips.items; chains = b.chains.items; totals = b.totals.items; items = open_tokens b.contexts.items ++ tokens_of b.items.items; depth = length b.contexts.items } };
+
+    ghost invariant = { λ b. HasScrollsOf b.nodes.items b.scrolls };
 }
 
 impl Builder {
     /// Before the first part.
-    #[tactic(auto, unfolding(crate::specs::Tree::open_tokens, crate::specs::Tree::tokens_of))]
+    #[tactic(auto, unfolding(crate::specs::Tokens::open_tokens, crate::specs::Tokens::tokens_of))]
     pub fn new(alloc: Global) -> Result<Builder, AllocError>
         ensures { IfOk result (λ b. b ≡ start) }
     {
@@ -56,11 +63,12 @@ impl Builder {
         Ok(Builder {
             section: Section::Nodes,
             nodes: Vec::new(alloc),
+            scrolls: BTreeSet::new(alloc),
             levels,
             clips: Vec::new(alloc),
             chains: Vec::new(alloc),
             totals: Vec::new(alloc),
-            pushed: Vec::new(alloc),
+            contexts: Vec::new(alloc),
             items: Vec::new(alloc),
         })
     }
@@ -121,14 +129,14 @@ impl Builder {
         self.totals.len()
     }
 
-    /// The number of contexts that are still pushed.
+    /// The number of contexts that are open.
     pub fn depth(&self) -> usize
         ensures { result ≡ self.now.depth }
     {
-        self.pushed.len()
+        self.contexts.len()
     }
 
-    /// How many nodes lie between a node and nothing: 0 for the root.
+    /// The level of a node: 0 for the root.
     pub fn level(&self, node: u16) -> u8
         requires { node < length self.now.levels }
         ensures { result ≡ slice_index self.now.levels node }
@@ -138,14 +146,14 @@ impl Builder {
 
     /// Whether a node is scrolled by this number.
     pub fn has_scroll(&self, sid: u16) -> bool
-        ensures { result ≡ list_any (has_sid sid) self.now.nodes }
+        ensures { result ≡ list_any (has_scroll sid) self.now.nodes }
     {
-        self.nodes.iter().any(|node| is_scrolled_by(node, sid))
+        self.scrolls.contains(&sid)
     }
 
     /// The clips of a parent chain, with its parents'.
     pub fn inherited(&self, chain: Option<u16>) -> u8
-        requires { IsChain (length self.now.totals) chain }
+        requires { IsDefined (length self.now.totals) chain }
         ensures { result ≡ inherited self.now.totals chain }
     {
         match chain {
@@ -155,13 +163,12 @@ impl Builder {
     }
 
     fn add_node(&mut self, node: Node) -> Result<(), AllocError>
-        requires { HasParent self.old node }
+        requires { NodeFollows self.old node }
         ensures { OnOk result (self.new ≡ after self.old (Part.Node node)) }
     {
         let level = self.levels[node.parent() as usize] + 1;
         self.levels.push(level)?;
-        self.nodes.push(node)?;
-        Ok(())
+        push_node(&mut self.nodes, &mut self.scrolls, node)
     }
 
     fn add_clip(&mut self, clip: ClipDef) -> Result<(), AllocError>
@@ -173,7 +180,7 @@ impl Builder {
     }
 
     fn add_chain(&mut self, chain: ChainDef) -> Result<(), AllocError>
-        requires { HasRoom self.old chain }
+        requires { ChainFollows self.old chain }
         ensures { OnOk result (self.new ≡ after self.old (Part.Chain chain)) }
     {
         let total = self.inherited(chain.parent) + chain.clips.len() as u8;
@@ -183,23 +190,25 @@ impl Builder {
         Ok(())
     }
 
-    fn push(&mut self, alloc: Global, push: Push) -> Result<(), AllocError>
+    fn push_context(&mut self, alloc: Global, push: Push) -> Result<(), AllocError>
         ensures { OnOk result (self.new ≡ after self.old (Part.Item (Token.Push push))) }
     {
         let before = mem::replace(&mut self.items, Vec::new(alloc));
-        self.pushed.push(Open { push, before })?;
+        self.contexts.push(Open { push, before })?;
         self.section = Section::Items;
         Ok(())
     }
 
-    fn pop(&mut self) -> Result<(), AllocError>
+    fn pop_context(&mut self) -> Result<(), AllocError>
         requires { 0 < self.old.depth }
         ensures { OnOk result (self.new ≡ after self.old (Part.Item Token.Pop)) }
     {
-        let Some(Open { push, before }) = self.pushed.pop() else {
+        let Some(Open { push, before }) = self.contexts.pop() else {
             unreachable!()
         };
-        let children = mem::replace(&mut self.items, before);
+        let mut children = mem::replace(&mut self.items, before);
+        children.shrink_to_fit();
+        make_room(&mut self.items)?;
         self.items.push(Item::Context {
             node: push.node,
             chain: push.chain,
@@ -216,13 +225,14 @@ impl Builder {
     fn add_item(&mut self, item: Item) -> Result<(), AllocError>
         ensures items { OnOk result (self.new ≡ record self.old { section = Section.Items; items = self.old.items ++ item_tokens item }) }
     {
+        make_room(&mut self.items)?;
         self.items.push(item)?;
         self.section = Section::Items;
         Ok(())
     }
 
     fn add_token(&mut self, alloc: Global, token: Token) -> Result<(), AllocError>
-        requires { IsToken 0 self.old token }
+        requires { ItemFollows 0 self.old token }
         ensures { OnOk result (self.new ≡ after self.old (Part.Item token)) }
     {
         match token {
@@ -256,8 +266,8 @@ impl Builder {
                 colour,
                 glyphs,
             }),
-            Token::Push(push) => self.push(alloc, push),
-            Token::Pop => self.pop(),
+            Token::Push(push) => self.push_context(alloc, push),
+            Token::Pop => self.pop_context(),
             Token::Iframe { spot, pipeline } => self.add_item(Item::Iframe { spot, pipeline }),
             Token::HitArea { spot, tag } => self.add_item(Item::HitArea { spot, tag }),
         }
@@ -276,31 +286,53 @@ impl Builder {
         }
     }
 
-    /// The list, once no context is pushed.
+    /// The list, once no context is open.
     pub fn finish(self) -> List
         requires closed { self.depth ≡ 0 }
-        requires spelled { IsSpelled (listing_of self) }
-        ensures { result ≡ listing_of self }
+        requires spelled { IsSpelled (list_of self) }
+        ensures { result ≡ list_of self }
     {
         let Builder {
             section: _,
             nodes,
+            scrolls: _,
             levels: _,
             clips,
             chains,
             totals: _,
-            pushed: _,
+            contexts: _,
             items,
         } = self;
         List::new(nodes, clips, chains, items)
     }
 }
 
-fn is_scrolled_by(node: &Node, sid: u16) -> bool
-    ensures { result ≡ has_sid sid node.now }
+/// Room for one item where there is none yet: most contexts have few items.
+fn make_room(items: &mut Vec<Item>) -> Result<(), AllocError>
+    ensures { items.new.items ≡ items.old.items }
 {
-    match node {
-        Node::Reference { .. } => false,
-        Node::Scroll { sid: own, .. } => *own == sid,
+    if items.is_empty() {
+        items.reserve_exact(1)?;
     }
+    Ok(())
+}
+
+/// Takes one node more, and its scroll number. Without memory both stay as they are.
+fn push_node(
+    nodes: &mut Vec<Node>,
+    scrolls: &mut BTreeSet<u16>,
+    node: Node,
+) -> Result<(), AllocError>
+    requires { HasScrollsOf nodes.old.items scrolls.old }
+    ensures ok { OnOk result (nodes.new.items ≡ nodes.old.items ++ node ∷ []) }
+    ensures scrolls { HasScrollsOf nodes.new.items scrolls.new }
+{
+    nodes.push(node)?;
+    if let Node::Scroll { sid, .. } = node {
+        if scrolls.insert(sid).is_err() {
+            nodes.pop();
+            return Err(AllocError);
+        }
+    }
+    Ok(())
 }

@@ -1,14 +1,15 @@
 //! A list from bytes.
 
-ghost use Rattle.std.specs.Prelude.{◌≡◌, ◌≤◌, ◌<◌, ◌^◌, ◌+◌, length, IfOk, Ok};
-ghost use Rattle.display_list.specs.Outcome.{Gives};
-ghost use Rattle.display_list.specs.Listing.{Listing};
+ghost use Rattle.std.specs.Prelude.{◌≡◌, ◌≤◌, ◌<◌, ◌^◌, ◌+◌, length, IfOk, IfErr, Ok};
+ghost use Rattle.field_forms.specs.Outcome.{Gives, IsWithin};
+ghost use Rattle.display_list.specs.ListModel.{ListModel};
 ghost use Rattle.display_list.specs.Decoding.{list_at};
 ghost use Rattle.display_list.specs.Grammar.{Spells, Fits, FaultIsFirst};
 
 use crate::List;
 use crate::builder::Builder;
-use crate::reader::{Reader, fault};
+use crate::parts::read_next_part;
+use field_forms::{Reader, fault};
 use std::alloc::Global;
 use wr_io::{Code, DecodeError};
 
@@ -21,9 +22,10 @@ pub fn decode(alloc: Global, bytes: &[u8], own: u8) -> Result<List, DecodeError>
     ensures found { IfOk result (λ l. Spells l bytes.now) }
     ensures fits { IfOk result (λ l. Fits own l) }
     // What is spelled so and fits is answered, unless memory runs out.
-    ensures only { (l : Listing) → Spells l bytes.now → Fits own l → Gives result (Ok l) }
-    // A fault is the first one.
+    ensures only { (l : ListModel) → Spells l bytes.now → Fits own l → Gives result (Ok l) }
+    // A fault is the first one, in the bytes or just after them.
     ensures faulty { FaultIsFirst result own bytes.now }
+    ensures within { IfErr result (IsWithin (length bytes.now)) }
     // Which fault it is.
     ensures exact { Gives result (list_at own bytes.now) }
 {
@@ -38,7 +40,7 @@ fn read(alloc: Global, bytes: &[u8], own: u8) -> Result<List, DecodeError>
     let mut reader = Reader::new(bytes);
     let mut builder = Builder::new(alloc)?;
     for _ in 0..bytes.len() + 1 {
-        let Some(part) = reader.next_part(alloc, &builder, own + 1)? else {
+        let Some(part) = read_next_part(&mut reader, alloc, &builder, own + 1)? else {
             reader.finish()?;
             return Ok(builder.finish());
         };

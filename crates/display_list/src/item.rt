@@ -1,5 +1,5 @@
-use crate::Seq;
 use blend_rules::{Mode, Px};
+use containers::Sequence;
 use wr_geom::{Radii, Rect, Widths};
 
 /// Where an item stands: its rectangle is relative to its node.
@@ -10,7 +10,7 @@ pub struct Spot {
     pub rect: Rect,
 }
 
-/// A glyph and its place in pixels, relative to the item's node.
+/// A glyph and its position in pixels, relative to the item's node.
 #[derive(Clone, Copy, Debug, PartialEq, Eq, Hash)]
 pub struct GlyphAt {
     pub glyph: u16,
@@ -45,7 +45,7 @@ pub enum Item {
         spot: Spot,
         font: u16,
         colour: Px,
-        glyphs: Seq<GlyphAt>,
+        glyphs: Sequence<GlyphAt>,
     },
     Context {
         node: u16,

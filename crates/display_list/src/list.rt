@@ -1,8 +1,10 @@
-//! A list that stands.
+//! A display list, which some bytes spell.
 
 ghost use Rattle.std.specs.Prelude.{◌≡◌};
-ghost use Rattle.display_list.specs.Tree.{tokens_of};
+ghost use Rattle.display_list.specs.Tokens.{tokens_of};
 ghost use Rattle.display_list.specs.Grammar.{IsSpelled};
+ghost use Rattle.display_list.specs.Facts.{IsList};
+ghost use Rattle.display_list.specs.Trees.{trees_of, told};
 
 use crate::{ChainDef, ClipDef, Item, Node};
 use std::marker::Model;
@@ -17,12 +19,12 @@ pub struct List {
 }
 
 impl Model for List {
-    ghost use Rattle.display_list.specs.Listing.{Listing};
+    ghost use Rattle.display_list.specs.ListModel.{ListModel};
     ghost use Rattle.display_list.specs.Grammar.{IsSpelled};
 
-    ghost Value = { Listing };
+    ghost Value = { ListModel };
 
-    ghost use Rattle.display_list.specs.Tree.{tokens_of};
+    ghost use Rattle.display_list.specs.Tokens.{tokens_of};
 
     ghost view = { λ l. record { nodes = l.nodes.items; clips = l.clips.items; chains = l.chains.items; items = tokens_of l.items.items } };
 
@@ -51,6 +53,7 @@ impl List {
     pub fn nodes(&self) -> &[Node]
         ensures value { result.now ≡ self.now.nodes }
         ensures spelled { IsSpelled self.now }
+        ensures list { IsList self.now }
     {
         self.nodes.as_slice()
     }
@@ -59,6 +62,7 @@ impl List {
     pub fn clips(&self) -> &[ClipDef]
         ensures value { result.now ≡ self.now.clips }
         ensures spelled { IsSpelled self.now }
+        ensures list { IsList self.now }
     {
         self.clips.as_slice()
     }
@@ -67,6 +71,7 @@ impl List {
     pub fn chains(&self) -> &[ChainDef]
         ensures value { result.now ≡ self.now.chains }
         ensures spelled { IsSpelled self.now }
+        ensures list { IsList self.now }
     {
         self.chains.as_slice()
     }
@@ -74,7 +79,9 @@ impl List {
     /// The items, back to front.
     pub fn items(&self) -> &[Item]
         ensures value { tokens_of result.now ≡ self.now.items }
+        ensures trees { told self.now.items ≡ trees_of result.now }
         ensures spelled { IsSpelled self.now }
+        ensures list { IsList self.now }
     {
         self.items.as_slice()
     }

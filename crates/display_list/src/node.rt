@@ -1,7 +1,7 @@
-use crate::Seq;
+use containers::Sequence;
 use wr_geom::{Radii, Rect};
 
-/// A place that others are relative to. Node 0 is the root; those of a list are numbered from 1 in order.
+/// What positions are relative to. Node 0 is the root; those of a list are numbered from 1 in order.
 #[derive(Clone, Copy, Debug, PartialEq, Eq, Hash)]
 pub enum Node {
     /// Moved by whole pixels against its parent, and by the offset property `prop` where it has one.
@@ -25,7 +25,7 @@ pub enum Node {
 
 impl Node {
     ghost use Rattle.std.specs.Prelude.{◌≡◌};
-    ghost use Rattle.display_list.specs.Standing.{parent_of};
+    ghost use Rattle.display_list.specs.Levels.{parent_of};
 
     /// The number of its parent.
     pub fn parent(self) -> u16
@@ -53,5 +53,5 @@ pub struct ClipDef {
 #[derive(Debug, Drop)]
 pub struct ChainDef {
     pub parent: Option<u16>,
-    pub clips: Seq<u16>,
+    pub clips: Sequence<u16>,
 }

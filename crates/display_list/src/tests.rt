@@ -40,7 +40,7 @@ const STARTS: [u32; 124] = [
     325,
 ];
 
-/// Bytes that are put into it at a place, and the code and place of the fault that this makes.
+/// Bytes that are put into it at a position, and the code and position of the fault that this makes.
 const WRONG: [(usize, &[u8], u8, u32); 132] = [
     (0, &[14], 1, 0),
     (53, &[1], 1, 53),
@@ -178,7 +178,7 @@ const WRONG: [(usize, &[u8], u8, u32); 132] = [
 
 /// The code and place of the first fault.
 fn fault_of(alloc: Global, bytes: &[u8], own: u8) -> Option<(u8, u32)> {
-    if own > 63 || bytes.len() > 200_000 {
+    if own > 63 || bytes.len() > 6_300_000 {
         return None;
     }
     match decode(alloc, bytes, own) {
@@ -189,10 +189,10 @@ fn fault_of(alloc: Global, bytes: &[u8], own: u8) -> Option<(u8, u32)> {
 
 /// Whether the bytes are a list.
 fn is_list(alloc: Global, bytes: &[u8]) -> bool {
-    bytes.len() <= 200_000 && decode(alloc, bytes, 0).is_ok()
+    bytes.len() <= 6_300_000 && decode(alloc, bytes, 0).is_ok()
 }
 
-/// The whole list with these bytes at a place.
+/// The whole list with these bytes at a position.
 fn patched(alloc: Global, at: usize, bytes: &[u8]) -> Result<Vec<u8>, AllocError> {
     let mut out = Vec::new(alloc);
     for (i, byte) in WHOLE.iter().enumerate() {
@@ -225,7 +225,8 @@ fn every_form_twice(rt: HostRuntime) -> Result<(), Fail> {
     assert!(rt; again.as_slice() == WHOLE.as_slice());
     spelling_laws();
     fault_laws();
-    tree_law();
+    reading_laws();
+    tree_laws();
     Ok(())
 }
 
@@ -246,11 +247,11 @@ fn cut_in_each_field(rt: HostRuntime) {
 
 #[test]
 fn each_field_wrong(rt: HostRuntime) -> Result<(), Fail> {
-    for (at, bytes, code, place) in WRONG {
+    for (at, bytes, code, position) in WRONG {
         let list = patched(rt.alloc(), at, bytes)?;
         assert_eq!(rt;
             fault_of(rt.alloc(), list.as_slice(), 0),
-            Some((code, place)),
+            Some((code, position)),
             "at {at}"
         );
     }
@@ -358,5 +359,33 @@ fn a_scroll_number_once(rt: HostRuntime) -> Result<(), Fail> {
     ];
     let list = repeated(rt.alloc(), &frame, 2, &[0])?;
     assert_eq!(rt; fault_of(rt.alloc(), list.as_slice(), 0), Some((4, 24)));
+    Ok(())
+}
+
+#[test]
+fn scroll_numbers_of_4096_frames(rt: HostRuntime) -> Result<(), Fail> {
+    let mut list = Vec::new(rt.alloc());
+    for sid in 0u16..4096 {
+        list.extend_from_slice(&[2, 0, 0])?;
+        list.extend_from_slice(&sid.to_le_bytes())?;
+        list.extend_from_slice(&[0; 16])?;
+    }
+    list.push(0)?;
+    assert!(rt; is_list(rt.alloc(), list.as_slice()));
+    Ok(())
+}
+
+#[test]
+fn a_list_of_5_mebibytes(rt: HostRuntime) -> Result<(), Fail> {
+    let solid = [
+        6, 0, 0, 255, 255, 0, 0, 0, 0, 0, 0, 0, 0, 4, 0, 0, 0, 4, 0, 0, 0, 1, 2, 3, 4,
+    ];
+    let mut list = Vec::new(rt.alloc());
+    for _ in 0..4 {
+        list.extend_from_slice(repeated(rt.alloc(), &solid, 52_429, &[])?.as_slice())?;
+    }
+    list.push(0)?;
+    assert!(rt; list.len() > 5 << 20);
+    assert!(rt; is_list(rt.alloc(), list.as_slice()));
     Ok(())
 }

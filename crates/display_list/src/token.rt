@@ -1,5 +1,6 @@
-use crate::{ChainDef, ClipDef, GlyphAt, Node, Seq, Spot};
+use crate::{ChainDef, ClipDef, GlyphAt, Node, Spot};
 use blend_rules::{Mode, Px};
+use containers::Sequence;
 use wr_geom::{Radii, Widths};
 
 /// An item as it stands in the bytes: a context is a push, its items and a pop.
@@ -28,7 +29,7 @@ pub enum Token {
         spot: Spot,
         font: u16,
         colour: Px,
-        glyphs: Seq<GlyphAt>,
+        glyphs: Sequence<GlyphAt>,
     },
     Push(Push),
     Pop,

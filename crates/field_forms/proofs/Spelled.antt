@@ -17,7 +17,7 @@ use Rattle.wr_io.specs.declared.fault.Code.TheVariants as code
 use Rattle.field_forms.specs.Form.{AreBytes}
 use Rattle.field_forms.specs.Numbers.{byte, number, signed, any_colour}
 use Rattle.field_forms.specs.Fields.{flag, reference, optional_reference, optional_of, optional_number, is_far, coordinate, coordinate_from, rectangle, colour}
-use Rattle.field_forms.specs.Facts.{IsNear, IsRectangle, IsDefined, IsColour, AreChannels}
+use Rattle.field_forms.specs.Facts.{IsNear, IsRectangle, IsDefined, IsColour, AreChannels, IsReference, IsOptionalReference, FitsOptional}
 use Rattle.field_forms.specs.Spelling.{u16_bytes, u32_bytes, i32_bytes, optional_bytes, flag_bytes, rectangle_bytes}
 use Rattle.field_forms.proofs.Bytes.{byte_at_index}
 use Rattle.field_forms.proofs.Passing.{HasSpelling, with_fact, refuse_if_spelling, refuse_unless_spelling, made_spelling, joined, alone, at_end}
@@ -115,27 +115,12 @@ flag_spelling =
     (λ n h. (tt, flag_of n (ltb-false 1 n h.1)))
     (λ b _. (flag_back b, flag_again b, refl))
 
--- a number that names one of so many, and fits its field
-pub record IsReference (count n : ℕ) : Type 0 where
-  pub defined : n < count
-  pub fits : n < 2 ^ 16
-
 pub reference_spelling : (count : ℕ) → HasSpelling (reference count) u16_bytes (IsReference count)
 unfolding reference
 reference_spelling count =
     with_fact (IsReference count) (refuse_unless_spelling (λ n. ltb n count) code.BadRef u16_spelling)
     (λ n h. record { defined = ltb-true n count h.1; fits = h.0 })
     (λ n h. (h.fits, lt-ltb n count h.defined))
-
--- one of so many that fits its field, or none
-abbrev pub IsOptionalReference : ℕ → Option ℕ → Type 0
-IsOptionalReference count None = Unit {0}
-IsOptionalReference count (Some n) = IsReference count n × (n < 65535)
-
--- a number that fits its field and doesn't stand for none, or none
-abbrev pub FitsOptional : Option ℕ → Type 0
-FitsOptional None = Unit {0}
-FitsOptional (Some n) = n < 65535
 
 not_none : (n : ℕ) → n < 2 ^ 16 → eqb n 65535 ≡ false → n < 65535
 not_none n h e = grind (arith, nat_tests)

@@ -1,5 +1,5 @@
 -- What holds of the values of fields that pass.
-use Rattle.std.specs.Prelude.{ℕ, ℤ, pos, negsuc, ◌<◌, ◌≤ℤ◌, Option, Some, None}
+use Rattle.std.specs.Prelude.{ℕ, ℤ, pos, negsuc, ◌<◌, ◌^◌, ◌≤ℤ◌, Option, Some, None}
 use Rattle.blend_rules.specs.declared.colour.Px.{Px}
 use Rattle.blend_rules.specs.Colour.{IsPremultiplied}
 use Rattle.wr_geom.specs.Bounds.{Bounds}
@@ -34,3 +34,18 @@ pub record AreChannels (p : Px) : Type 0 where
 pub record IsColour (p : Px) : Type 0 where
   pub premultiplied : IsPremultiplied p
   pub byte : p.a < 256
+
+-- a number that names one of so many, and fits its field of two bytes
+pub record IsReference (count n : ℕ) : Type 0 where
+  pub defined : n < count
+  pub fits : n < 2 ^ 16
+
+-- the same, or none, for which 65535 stands
+abbrev pub IsOptionalReference : ℕ → Option ℕ → Type 0
+IsOptionalReference count None = Unit {0}
+IsOptionalReference count (Some n) = IsReference count n × (n < 65535)
+
+-- a number that fits its field and doesn't stand for none, or none
+abbrev pub FitsOptional : Option ℕ → Type 0
+FitsOptional None = Unit {0}
+FitsOptional (Some n) = n < 65535

@@ -1,23 +1,23 @@
 use Rattle.std.proofs.Common.{Ok, Err, Result, arith}
 use Rattle.std.specs.Prelude.{IfOk}
 use Rattle.wr_io.specs.declared.fault.DecodeError.{DecodeError}
-use Rattle.display_list.specs.Listing.{Listing}
-use Rattle.display_list.proofs.Bytes.{are_bytes}
-use Rattle.display_list.proofs.Lists.{is_found, is_only, is_faulty, spells_of, fits_of}
+use Rattle.display_list.specs.ListModel.{ListModel}
+use Rattle.field_forms.proofs.Bytes.{are_bytes}
+use Rattle.display_list.proofs.ReadLists.{is_found, is_only, is_faulty, is_within}
 use Rattle.display_list.proofs.decoder.decode.Goals as goal
 
-if_ok : {P Q : Listing → Type 0} (r : Result Listing DecodeError) → ((l : Listing) → P l → Q l) → IfOk r P → IfOk r Q
+if_ok : {P Q : ListModel → Type 0} (r : Result ListModel DecodeError) → ((l : ListModel) → P l → Q l) → IfOk r P → IfOk r Q
 if_ok (Ok l) f h = f l h
 if_ok (Err e) f h = tt
 
 pub returns-clause-found : goal.returns-clause-found
 returns-clause-found c =
-    if_ok c.read.result (λ l. spells_of c.args.own l c.args.bytes.now)
+    if_ok c.read.result (λ l h. h.0)
     (is_found c.args.own c.args.bytes.now c.read.result (are_bytes c.args.bytes.now (λ i. omega (arith, c.type_inv.bytes i))) c.read.ensures)
 
 pub returns-clause-fits : goal.returns-clause-fits
 returns-clause-fits c =
-    if_ok c.read.result (λ l. fits_of c.args.own l c.args.bytes.now)
+    if_ok c.read.result (λ l h. h.1)
     (is_found c.args.own c.args.bytes.now c.read.result (are_bytes c.args.bytes.now (λ i. omega (arith, c.type_inv.bytes i))) c.read.ensures)
 
 pub returns-clause-only : goal.returns-clause-only
@@ -25,3 +25,6 @@ returns-clause-only c = is_only c.args.own c.args.bytes.now c.read.result c.read
 
 pub returns-clause-faulty : goal.returns-clause-faulty
 returns-clause-faulty c = is_faulty c.args.own c.args.bytes.now c.read.result (are_bytes c.args.bytes.now (λ i. omega (arith, c.type_inv.bytes i))) c.read.ensures
+
+pub returns-clause-within : goal.returns-clause-within
+returns-clause-within c = is_within c.args.own c.args.bytes.now c.read.result (are_bytes c.args.bytes.now (λ i. omega (arith, c.type_inv.bytes i))) c.read.ensures

@@ -1,4 +1,4 @@
-use Rattle.display_list.proofs.Lists.{one_fault, no_fault}
+use Rattle.display_list.proofs.ReadLists.{one_fault, no_fault, fault_within}
 use Rattle.display_list.proofs.laws.fault_laws.Goals as goal
 
 pub returns-clause-one_fault : goal.returns-clause-one_fault
@@ -6,3 +6,6 @@ returns-clause-one_fault c = one_fault
 
 pub returns-clause-no_fault : goal.returns-clause-no_fault
 returns-clause-no_fault c = no_fault
+
+pub returns-clause-within : goal.returns-clause-within
+returns-clause-within c = fault_within

@@ -1,7 +1,0 @@
-use Rattle.std.proofs.Common.{rules, append_assoc}
-use Rattle.std.proofs.lemmas.List.{append-nil}
-use Rattle.std.proofs.lemmas.Result.{IfOk-equal}
-use Rattle.display_list.proofs.encoder.put_border.Goals as goal
-
-pub returns : goal.returns
-returns c = search (rules, IfOk-equal, append_assoc, append-nil)

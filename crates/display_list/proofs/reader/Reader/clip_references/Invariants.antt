@@ -1,9 +1,0 @@
-use Rattle.std.proofs.Common.{◌≡◌, ◌-◌, length}
-use Rattle.display_list.specs.Form.{read}
-use Rattle.display_list.specs.Fields.{times, reference}
-use Rattle.display_list.proofs.Repeats.{with_front}
-use Rattle.display_list.proofs.reader.Reader.clip_references.Given as goal
-
--- the references so far and those that are left are all
-abbrev pub invariant-loop : goal.invariant-loop
-invariant-loop l = (length l.found ≡ l.counter) × (with_front l.found (read (times (l.count - l.counter) (reference l.clips)) l.self) ≡ read (times l.count (reference l.clips)) l.fn.self)
