@@ -6,22 +6,22 @@ use Rattle.txn_format.specs.Txn.{OpModel, PlacedModel, TxnModel, set_list, remov
 use Rattle.txn_format.specs.Spelling.{placed_bytes, txn_bytes}
 
 -- one of the numbers from low to high
-pub record IsInRange (low high n : ℕ) : Type 0 where
+pub record IsFromTo (low high n : ℕ) : Type 0 where
   pub at_least : low ≤ n
   pub at_most : n ≤ high
 
 -- sides of an image or a glyph, in texels, and so many bytes for each texel
 pub record AreTexels (w h each : ℕ) (bytes : List ℕ) : Type 0 where
-  pub width : IsInRange 1 4096 w
-  pub height : IsInRange 1 4096 h
+  pub width : IsFromTo 1 4096 w
+  pub height : IsFromTo 1 4096 h
   pub long : length bytes ≡ each * (w * h)
   pub are_bytes : AreBytes bytes
 
 -- sides of a tile, in pixels, and how many tiles of few enough pixels in all
 pub record IsTilePolicy (tw th budget : ℕ) : Type 0 where
-  pub width : IsInRange 64 1024 tw
-  pub height : IsInRange 64 1024 th
-  pub tiles : IsInRange 1 65536 budget
+  pub width : IsFromTo 64 1024 tw
+  pub height : IsFromTo 64 1024 th
+  pub tiles : IsFromTo 1 65536 budget
   pub pixels : tw * th * budget ≤ 2 ^ 28
 
 -- an operation's numbers fit their fields and are in their ranges; those of the root pipeline, 0, are in its transactions alone
@@ -36,7 +36,7 @@ IsOp pipeline (update_image key x y w h pixels) = (key < 2 ^ 32) × (x < 2 ^ 16)
 IsOp pipeline (delete_image key) = key < 2 ^ 32
 IsOp pipeline (add_glyph font glyph w h mask) = (font < 2 ^ 16) × (glyph < 2 ^ 16) × AreTexels w h 1 mask
 IsOp pipeline (delete_font font) = font < 2 ^ 16
-IsOp pipeline (set_view w h clear) = (pipeline ≡ 0) × IsInRange 1 4096 w × IsInRange 1 4096 h × IsColour clear
+IsOp pipeline (set_view w h clear) = (pipeline ≡ 0) × IsFromTo 1 4096 w × IsFromTo 1 4096 h × IsColour clear
 IsOp pipeline (tile_policy tw th budget) = (pipeline ≡ 0) × IsTilePolicy tw th budget
 IsOp pipeline drop_tiles = pipeline ≡ 0
 

@@ -9,12 +9,12 @@ use Rattle.field_forms.specs.Fields.{refuse_if, refuse_unless, times, flag, coor
 use Rattle.txn_format.specs.Txn.{OpModel, PlacedModel, TxnModel, set_list, remove_pipeline, scroll, set_offset, set_opacity, add_image, update_image, delete_image, add_glyph, delete_font, set_view, tile_policy, drop_tiles}
 
 -- whether a number is one of those from low to high
-unfoldable pub is_in_range : ℕ → ℕ → ℕ → Bool
-is_in_range low high n = nat_le low n && nat_le n high
+unfoldable pub is_from_to : ℕ → ℕ → ℕ → Bool
+is_from_to low high n = nat_le low n && nat_le n high
 
 -- a number of two bytes from low to high
 unfoldable pub u16_between : ℕ → ℕ → Code → Form ℕ
-u16_between low high c = refuse_unless (is_in_range low high) c (number w16)
+u16_between low high c = refuse_unless (is_from_to low high) c (number w16)
 
 -- a property's id; 65535 is none
 unfoldable pub property_id : Form ℕ
@@ -124,7 +124,7 @@ tile_side = u16_between 64 1024 code.BadNumber
 unfoldable pub tile_budget : ℕ → ℕ → Form ℕ
 tile_budget tw th =
     refuse_unless (λ budget. nat_le (tw * th * budget) (2 ^ 28)) code.Limit
-    (refuse_unless (is_in_range 1 65536) code.BadNumber (number w32))
+    (refuse_unless (is_from_to 1 65536) code.BadNumber (number w32))
 
 -- a tile's sides and how many tiles are kept
 unfoldable pub tile_policy_form : Form OpModel

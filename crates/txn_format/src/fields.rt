@@ -12,7 +12,7 @@ use field_forms::{NONE, Reader, fault};
 use wr_io::{Code, DecodeError};
 
 /// A number of two bytes from `low` to `high`, else it is refused with the code.
-#[tactic(auto, unfolding(crate::specs::Forms::u16_between, crate::specs::Forms::is_in_range))]
+#[tactic(auto, unfolding(crate::specs::Forms::u16_between, crate::specs::Forms::is_from_to))]
 fn u16_between(reader: &mut Reader<'_>, low: u16, high: u16, code: Code) -> Result<u16, DecodeError>
     ensures reads { Reads result reader.new (read (u16_between low high code) reader.old) }
     ensures at_most { IfOk result (λ n. n ≤ high) }
@@ -209,7 +209,7 @@ fn tile_side(reader: &mut Reader<'_>) -> Result<u16, DecodeError>
 }
 
 /// How many tiles are kept, of few enough pixels in all.
-#[tactic(auto, unfolding(crate::specs::Forms::tile_budget, crate::specs::Forms::is_in_range))]
+#[tactic(auto, unfolding(crate::specs::Forms::tile_budget, crate::specs::Forms::is_from_to))]
 fn tile_budget(reader: &mut Reader<'_>, tw: u16, th: u16) -> Result<u32, DecodeError>
     requires width { tw ≤ 1024 }
     requires height { th ≤ 1024 }
