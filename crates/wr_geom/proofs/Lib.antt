@@ -1,2 +1,3 @@
-pub mod Points
 pub mod Fits
+pub mod Points
+pub mod Rects

@@ -68,6 +68,14 @@ bounding a b = if has_points a then (if has_points b then hull a b else a) else 
 abbrev pub shifted : Bounds → Point → Bounds
 shifted b by = record { x0 = b.x0 +ℤ by.x; y0 = b.y0 +ℤ by.y; x1 = b.x1 +ℤ by.x; y1 = b.y1 +ℤ by.y }
 
+-- how many pixels lie across it
+abbrev pub width_of : Bounds → ℕ
+width_of b = unsigned_abs (b.x1 -ℤ b.x0)
+
+-- how many pixels lie down it
+abbrev pub height_of : Bounds → ℕ
+height_of b = unsigned_abs (b.y1 -ℤ b.y0)
+
 -- width times height, the number of its points
 abbrev pub area_of : Bounds → ℕ
-area_of b = unsigned_abs (b.x1 -ℤ b.x0) * unsigned_abs (b.y1 -ℤ b.y0)
+area_of b = width_of b * height_of b

@@ -1,16 +1,9 @@
 -- Radii of corners and widths of sides, and when they fit a rectangle.
-use Rattle.std.specs.Prelude.{ℕ, ◌+◌, ◌≤◌, ◌-ℤ◌, Bool, ◌&&◌, nat_le, unsigned_abs}
+use Rattle.std.specs.Prelude.{ℕ, ◌+◌, ◌≤◌, Bool, ◌&&◌, nat_le}
 use Rattle.wr_geom.specs.Bounds.{Bounds}
+pub use Rattle.wr_geom.specs.Bounds.{width_of, height_of}
 use Rattle.wr_geom.specs.declared.sides.Radii.{Radii}
 use Rattle.wr_geom.specs.declared.sides.Widths.{Widths}
-
--- how many pixels lie across a rectangle
-abbrev pub width_of : Bounds → ℕ
-width_of b = unsigned_abs (b.x1 -ℤ b.x0)
-
--- how many pixels lie down a rectangle
-abbrev pub height_of : Bounds → ℕ
-height_of b = unsigned_abs (b.y1 -ℤ b.y0)
 
 -- the radii of a rectangle without round corners
 abbrev pub square : Radii
