@@ -47,6 +47,19 @@ fn blends_and_scales(rt: HostRuntime) -> Result<(), Fail> {
     );
     assert_eq!(rt; scale(half, 255), half);
     assert_eq!(rt; blend(Mode::Normal, Px::CLEAR, half), half);
+    assert_eq!(rt;
+        [
+            half.channel(Plane::B),
+            half.channel(Plane::G),
+            half.channel(Plane::R),
+            half.channel(Plane::A)
+        ],
+        [0, 0, 128, 128]
+    );
+    assert!(rt; !Px { g: 129, ..half }.is_premultiplied());
+    product_laws();
+    scale_laws();
     blend_laws();
+    pixel_laws();
     Ok(())
 }

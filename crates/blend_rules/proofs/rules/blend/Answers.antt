@@ -27,4 +27,4 @@ returns-clause-clear_backdrop c e = returns-clause-value c
 pub returns-clause-opaque : goal.returns-clause-opaque
 returns-clause-opaque c n e = returns-clause-value c
     ∙ ap (λ m. blended m c.args.s c.args.d) n
-    ∙ opaque_covers c.args.s c.args.d c.requires.source c.requires.backdrop e
+    ∙ opaque_covers c.args.s c.args.d c.requires.source e
