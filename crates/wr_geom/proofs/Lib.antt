@@ -1,3 +1,4 @@
 pub mod Fits
 pub mod Points
 pub mod Rects
+pub mod Sames

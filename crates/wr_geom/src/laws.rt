@@ -1,4 +1,10 @@
+ghost use Rattle.std.specs.Prelude.{◌≡◌, ◌↔◌, true};
+ghost use Rattle.std.specs.declared.cmp.Ordering.TheVariants.{Equal};
+ghost use Rattle.wr_geom.specs.Bounds.{Bounds};
 ghost use Rattle.wr_geom.specs.Laws.{SamePointsAreOneRect, IntersectionHasSharedPoints, IntersectionOfApartIsNowhere, IntersectionCommutes, IntersectionAssociates, BoundingCoversFirst, BoundingCoversSecond, BoundingIsLeast, BoundingOfEmptyIsNowhere, ShiftedHasMovedPoints, ShiftedTwiceIsBySum, ShiftedKeepsArea};
+
+use super::Rect;
+use std::cmp::{Ord, PartialEq};
 
 /// What holds of the definitions of rectangles, for whoever reasons about them. It does nothing.
 pub fn rect_laws()
@@ -14,4 +20,10 @@ pub fn rect_laws()
     ensures moved_points { ShiftedHasMovedPoints }
     ensures moved_twice { ShiftedTwiceIsBySum }
     ensures moved_area { ShiftedKeepsArea }
+{}
+
+/// `==` and the order of rectangles tell different ones apart. It does nothing.
+pub fn rect_order_laws()
+    ensures equality { (a b : Bounds) → (⟦<Rect as PartialEq>⟧.eq a b ≡ true) ↔ (a ≡ b) }
+    ensures order { (a b : Bounds) → (⟦<Rect as Ord>⟧.cmp a b ≡ Equal) ↔ (a ≡ b) }
 {}
