@@ -1,9 +1,10 @@
 -- Tests of sameness and orders tell different rectangles and radii apart.
-use Rattle.std.proofs.Common.{◌≡◌, ℕ, ℤ, true, ◌&&◌, eqb, refl, ap, ap₂, subst, int_eq, int_cmp}
+use Rattle.std.proofs.Common.{◌<◌, sym, ◌≡◌, ℕ, ℤ, true, ◌&&◌, eqb, refl, ap, ap₂, subst, int_eq, int_cmp}
 use Rattle.std.proofs.lemmas.Bool.{and_parts, and_from, eqb-true, eq-eqb}
 use Rattle.std.proofs.lemmas.Bool.Decides.{Decides-int_eq}
-use Rattle.std.specs.Cmp.{Equal-is}
-use Rattle.std.specs.Ordering.{is_eq, ordering_then}
+use Rattle.std.proofs.lemmas.Cmp.{ranked}
+use Rattle.std.specs.Cmp.{Equal-is, nat_cmp_is}
+use Rattle.std.specs.Ordering.{MatchOrdering, is_eq, nat_cmp, ordering_then}
 use Rattle.std.specs.declared.cmp.Ordering.{Ordering}
 use Rattle.std.specs.declared.cmp.Ordering.TheVariants.{Less, Equal, Greater}
 use Rattle.wr_geom.specs.Bounds.{Bounds, same_rect}
@@ -89,3 +90,32 @@ same_radii-self a = and_from _ _ (corner_self a.tl) (and_from _ _ (corner_self a
 
 pub same_radii-of : (a b : Radii) → a ≡ b → same_radii a b ≡ true
 same_radii-of a b e = subst (λ (r : Radii). same_radii a r ≡ true) e (same_radii-self a)
+
+nat_tie : (x y : ℕ) → nat_cmp x y ≡ Equal → x ≡ y
+nat_tie x y h = subst (λ (r : Ordering). MatchOrdering r (x < y) (x ≡ y) (y < x)) h (ranked x y (nat_cmp x y) refl)
+
+nat_self : (x : ℕ) → nat_cmp x x ≡ Equal
+nat_self x = sym (nat_cmp_is x x Equal refl)
+
+abbrev pub corner_cmp : ℕ × ℕ → ℕ × ℕ → Ordering
+corner_cmp a b = ordering_then (nat_cmp a.0 b.0) (nat_cmp a.1 b.1)
+
+corner_tie : (a b : ℕ × ℕ) → corner_cmp a b ≡ Equal → a ≡ b
+corner_tie a b h = let k = both_tie (nat_cmp a.0 b.0) (nat_cmp a.1 b.1) h in ap₂ (λ (m n : ℕ). (m, n)) (nat_tie a.0 b.0 k.0) (nat_tie a.1 b.1 k.1)
+
+corner_even : (a : ℕ × ℕ) → corner_cmp a a ≡ Equal
+corner_even a = tie_both _ _ (nat_self a.0) (nat_self a.1)
+
+-- how the order of radii compares them: corner by corner
+abbrev pub radii_cmp : Radii → Radii → Ordering
+radii_cmp a b = ordering_then (corner_cmp a.tl b.tl) (ordering_then (corner_cmp a.tr b.tr) (ordering_then (corner_cmp a.br b.br) (corner_cmp a.bl b.bl)))
+
+pub radii_tie : (a b : Radii) → radii_cmp a b ≡ Equal → a ≡ b
+radii_tie a b h =
+    let i = both_tie (corner_cmp a.tl b.tl) (ordering_then (corner_cmp a.tr b.tr) (ordering_then (corner_cmp a.br b.br) (corner_cmp a.bl b.bl))) h in
+    let j = both_tie (corner_cmp a.tr b.tr) (ordering_then (corner_cmp a.br b.br) (corner_cmp a.bl b.bl)) i.1 in
+    let k = both_tie (corner_cmp a.br b.br) (corner_cmp a.bl b.bl) j.1 in
+    four_corners a b (corner_tie a.tl b.tl i.0) (corner_tie a.tr b.tr j.0) (corner_tie a.br b.br k.0) (corner_tie a.bl b.bl k.1)
+
+pub radii_self : (a : Radii) → radii_cmp a a ≡ Equal
+radii_self a = tie_both _ _ (corner_even a.tl) (tie_both _ _ (corner_even a.tr) (tie_both _ _ (corner_even a.br) (corner_even a.bl)))
