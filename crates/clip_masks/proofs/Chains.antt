@@ -1,16 +1,15 @@
 -- Chains of clips.
-use Rattle.std.proofs.Common.{◌≡◌, ℕ, zero, suc, ◌+◌, ◌-◌, ◌<◌, ◌≤◌, ◌^◌, ℤ, ◌+ℤ◌, List, [], ◌∷◌, ◌++◌, All, length, get_or, take, Bool, true, false, ◌&&◌, if◌then◌else◌, refl, sym, ap, ap₂, ◌∙◌, true≢false, arith}
+use Rattle.std.proofs.Common.{◌≡◌, ℕ, zero, suc, ◌+◌, ◌-◌, ◌<◌, ◌≤◌, ◌^◌, ℤ, ◌+ℤ◌, List, [], ◌∷◌, length, get_or, take, Bool, true, false, ◌&&◌, if◌then◌else◌, refl, sym, ap, ap₂, ◌∙◌, true≢false, arith}
 use Rattle.std.proofs.lemmas.List.Elements.{All-head, All-tail}
 use Rattle.std.proofs.lemmas.List.Sums.{fold_more, count_by-le-length}
 use Rattle.wr_geom.specs.Bounds.{Bounds, holds, intersection}
 use Rattle.wr_geom.proofs.Points.{intersection_points}
 use Rattle.wr_geom.proofs.Rects.{intersection_in_first, intersection_in_second}
-use Rattle.wr_geom.specs.declared.point.Point.{Point}
 use Rattle.blend_rules.specs.Colour.{product}
 use Rattle.blend_rules.proofs.Products.{product-full_right, product-zero_left, product-zero_right, product-le_left}
 use Rattle.clip_masks.specs.Outline.{Outline, is_inside, sample_points, samples_inside, share}
 use Rattle.clip_masks.specs.Coverage.{coverage, chain_coverage, cut_by}
-use Rattle.clip_masks.specs.Clips.{IsRectClip, shifted_clip, shifted_clips}
+use Rattle.clip_masks.specs.Clips.{IsRectClip, shifted_clips}
 use Rattle.clip_masks.specs.Laws.{CoverageIsByte, ChainOfNone, ChainOfBoth, ChainOfNothing, ChainAtMostOuter, ShiftedChainCoversMoved, CutIsInside, ChainBesideCut, ChainWithinCut}
 use Rattle.clip_masks.specs.declared.clip.Clip.{Clip}
 use Rattle.clip_masks.proofs.Points.{samples_beside}

@@ -4,11 +4,9 @@ use Rattle.std.proofs.Math.Bool.{beq}
 use Rattle.std.specs.Ordering.{bool_cmp}
 use Rattle.std.specs.declared.cmp.Ordering.TheVariants.{Equal}
 use Rattle.std.proofs.lemmas.Bool.{and_parts, and_from, not-true}
-use Rattle.wr_geom.specs.Bounds.{Bounds, same_rect}
+use Rattle.wr_geom.specs.Bounds.{same_rect}
 use Rattle.wr_geom.specs.Sides.{square, same_radii}
-use Rattle.wr_geom.specs.declared.sides.Radii.{Radii}
 use Rattle.wr_geom.proofs.Sames.{same_rect-true, same_rect-self, same_radii-true, same_radii-self, same_radii-of}
-use Rattle.clip_masks.specs.Outline.{Outline}
 use Rattle.clip_masks.specs.Clips.{IsRectClip, is_rect_clip, same_clip}
 use Rattle.clip_masks.specs.Laws.{SameClipsAreEqual}
 use Rattle.clip_masks.specs.declared.clip.Clip.{Clip}

@@ -1,4 +1,4 @@
-use Rattle.std.proofs.Common.{◌≡◌, take, sym, ap, ◌∙◌}
+use Rattle.std.proofs.Common.{◌≡◌, sym, ap, ◌∙◌}
 use Rattle.wr_geom.specs.Bounds.{Bounds, holds}
 use Rattle.clip_masks.specs.Coverage.{cut_by}
 use Rattle.clip_masks.proofs.Chains.{cut_none, cut_step, cut_inside, beside_cut, within_cut, take_all}

@@ -1,5 +1,4 @@
-use Rattle.std.proofs.Common.{◌≡◌, Bool, true, ◌&&◌, sym, ap, subst, ◌∙◌}
-use Rattle.std.proofs.Math.Bool.{beq}
+use Rattle.std.proofs.Common.{◌≡◌, Bool, ◌&&◌, sym, ap, subst, ◌∙◌}
 use Rattle.std.specs.Ordering.{bool_cmp, ordering_then}
 use Rattle.std.specs.declared.cmp.Ordering.TheVariants.{Equal}
 use Rattle.wr_geom.specs.Bounds.{same_rect}
@@ -23,5 +22,5 @@ returns-clause-order c a b = (
       let j = both_tie (rect_cmp a.shape.rect b.shape.rect) (radii_cmp a.shape.radii b.shape.radii) i.0 in
       clip_of a b (rect_tie a.shape.rect b.shape.rect j.0) (radii_tie a.shape.radii b.shape.radii j.1) (mode_tie a.out b.out i.1),
   λ e. subst (λ (k : Clip). ordering_then (ordering_then (rect_cmp a.shape.rect k.shape.rect) (radii_cmp a.shape.radii k.shape.radii)) (bool_cmp a.out k.out) ≡ Equal) e
-  (tie_both _ _ (tie_both _ _ (rect_self a.shape.rect) (radii_self a.shape.radii)) (mode_even a.out)),
+      (tie_both _ _ (tie_both _ _ (rect_self a.shape.rect) (radii_self a.shape.radii)) (mode_even a.out)),
 )

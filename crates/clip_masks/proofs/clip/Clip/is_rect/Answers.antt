@@ -1,5 +1,3 @@
-use Rattle.clip_masks.specs.Clips.{is_rect_clip}
-use Rattle.clip_masks.proofs.Clips.{rect_clip-true}
 use Rattle.clip_masks.proofs.Moves.{rect_coverage}
 use Rattle.std.proofs.Common.{rules, ◌↔◌, IsTrue}
 use Rattle.clip_masks.specs.Clips.{IsRectClip}
