@@ -8,6 +8,7 @@ mod plane;
 mod rules;
 #[cfg(test)]
 mod tests;
+mod values;
 
 pub use colour::Px;
 pub use laws::{blend_laws, pixel_laws, product_laws, scale_laws};
