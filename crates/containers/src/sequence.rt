@@ -1,7 +1,8 @@
 //! Members in order.
 
-ghost use Rattle.std.specs.Prelude.{◌≡◌, ◌-◌, ◌≤◌, ◌++◌, ◌∷◌, ◌==◌, [], length, take, drop, slice_get, IfOk, OnOk, OnErr};
+ghost use Rattle.std.specs.Prelude.{◌≡◌, ◌<◌, ◌-◌, ◌≤◌, ◌++◌, ◌∷◌, ◌==◌, [], length, take, drop, slice_get, IfOk, OnOk, OnErr};
 ghost use Rattle.std.specs.Option.{option_copied};
+ghost use Rattle.std.specs.Borrow.{sem};
 ghost use Rattle.std.specs.Hash as fed;
 ghost use Rattle.std.specs.Hash.{items_Alike};
 ghost use Rattle.std.specs.List.{AllZip};
@@ -129,6 +130,19 @@ impl<T: Drop> Sequence<T> {
         let left = self.members.len() - count;
         self.members.as_mut_slice().rotate_left(count);
         self.members.truncate(left);
+    }
+}
+
+impl<T> Sequence<T> {
+    ghost use Rattle.containers.specs.LentMember.{LendsMember};
+
+    /// The member at an index, to write to.
+    pub fn member_mut(&mut self, index: usize) -> &mut T
+        requires { index < length self.old }
+        ensures* writes_back { sem 𝓛 (LendsMember T.row self.entry index result) }
+        ensures value { slice_get self.old index ≡ Some result.now }
+    {
+        &mut self.members[index]
     }
 }
 

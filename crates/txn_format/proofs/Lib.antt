@@ -1,0 +1,5 @@
+pub mod WholeTxns
+pub mod OpSpellings
+pub mod TxnSpellings
+pub mod PutOps
+pub mod TxnWithin
