@@ -1,6 +1,7 @@
 -- A source and a sink over memory.
 use Rattle.std.specs.Prelude.{ℕ, ◌+◌, ◌-◌, List, ◌++◌, length, take, drop, min, Bool, ◌&&◌, ◌||◌, not, nat_lt, ◌==◌, if◌then◌else◌}
 use Rattle.std.specs.List.{list_any}
+use Rattle.wr_io.specs.Streams.{counted}
 
 -- bytes to read, how many a call may give, the numbers of the calls that fail, and how many were made and failed
 pub record SourceMemory : Type 0 where
@@ -18,10 +19,6 @@ pub record SinkMemory : Type 0 where
   pub fail_at : List ℕ
   pub calls : ℕ
   pub faults : ℕ
-
--- one more, up to the last value of a u64
-abbrev pub counted : ℕ → ℕ
-counted n = min (n + 1) 18446744073709551615
 
 -- the call after so many is listed; calls are counted up to the last value of a u64
 abbrev pub call_fails : List ℕ → ℕ → Bool

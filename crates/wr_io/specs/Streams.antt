@@ -1,11 +1,21 @@
 -- What calls on sources and sinks do, where the bytes are told.
-use Rattle.std.specs.Prelude.{◌≡◌, ◌≢◌, ℕ, ◌<◌, ◌≤◌, List, [], ◌++◌, length, take, drop, min, Option, Some}
+use Rattle.std.specs.Prelude.{◌≡◌, ◌≢◌, ℕ, ◌+◌, ◌<◌, ◌≤◌, List, [], ◌++◌, length, take, drop, min, Option, Some, Result, Ok, Err}
+use Rattle.wr_io.specs.declared.streams.Failed.{Failed}
 
--- the count of faults rose, or stands at the last value of a u64
-abbrev pub HasFault : ℕ → ℕ → Type 0
-HasFault old new = new ≢ 18446744073709551615 → old < new
+-- the count of failed calls rose, or stands at the last value of a u64
+abbrev pub HasFailed : ℕ → ℕ → Type 0
+HasFailed old new = new ≢ 18446744073709551615 → old < new
 
--- n bytes of those that were left now stand in front of out, and the others are left; none do, in an out with room, only where none was left
+-- one more, up to the last value of a u64
+abbrev pub counted : ℕ → ℕ
+counted n = min (n + 1) 18446744073709551615
+
+-- the count of failed calls after one more call
+abbrev pub failures_after : {X : Type 0} → Result X Failed → ℕ → ℕ
+failures_after (Ok x) failures = failures
+failures_after (Err e) failures = counted failures
+
+-- n bytes of those that were left are now the first n of out, and the others are left; n is 0, for an out with room, only where none was left
 pub record ReadsFrom (bytes : List ℕ) (new : Option (List ℕ)) (out : List ℕ) (n : ℕ) : Type 0 where
   pub within : n ≤ length bytes
   pub put : take n out ≡ take n bytes
@@ -18,7 +28,7 @@ pub record ReadsExactly (bytes : List ℕ) (new : Option (List ℕ)) (out : List
   pub put : take n out ≡ take n bytes
   pub rest : new ≡ Some (drop n bytes)
 
--- fewer bytes than asked were taken from the front, and the others are left
+-- the first bytes were taken, fewer than asked, and the others are left
 pub record LeavesSome (bytes : List ℕ) (new : Option (List ℕ)) (asked : ℕ) : Type 0 where
   pub taken : ℕ
   pub fewer : taken < asked
@@ -29,7 +39,7 @@ pub record LeavesSome (bytes : List ℕ) (new : Option (List ℕ)) (asked : ℕ)
 abbrev pub WritesPart : List ℕ → Option (List ℕ) → List ℕ → ℕ → Type 0
 WritesPart bytes new piece n = new ≡ Some (bytes ++ take n piece)
 
--- fewer bytes than the piece has, from its front, were appended
+-- the first bytes of a piece were appended, but not the whole of it
 pub record WritesStrictPart (bytes : List ℕ) (new : Option (List ℕ)) (piece : List ℕ) : Type 0 where
   pub count : ℕ
   pub fewer : count < length piece
