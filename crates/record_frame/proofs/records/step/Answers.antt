@@ -37,7 +37,7 @@ returns-in_err-answer-in-Some-clause-told g c =
     rw (p.1, p.2) (weaker (g.S.Source.left c.args.source.now) (g.S.Source.left c.read.new.source)
     (Decides 5 (form.first c.args.is_allowed) (record_read g.A.Session.entry_of items) (Ok (Some c.in-Some.head)))
     (StepLeaves form rule c.args.is_allowed state next old old (Err (unanswered_input e)))
-    (λ t r h. step_unanswered form rule c.args.is_allowed state next old (g.A.Session.entry_of c.in-Some.head items) c.answer.new.out.items e t r 
+    (λ t r h. step_unanswered form rule c.args.is_allowed state next old (g.A.Session.entry_of c.in-Some.head items) c.answer.new.out.items e t r
     (subst (λ (b : List ℕ). AnswersBy rule (g.A.Session.entry_of c.in-Some.head b) state next c.answer.new.out.items (Err e)) c.deref.ensures.value c.in_err-answer-in-Some.ensures) h)
     (rw c.in-Some.is at c.in_ok-read.ensures.told))
 
