@@ -5,3 +5,4 @@ pub mod Rules
 pub mod Framings
 pub mod Progress
 pub mod Magic
+pub mod Toys

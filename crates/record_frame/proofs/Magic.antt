@@ -1,7 +1,6 @@
 -- The magic, and what follows it.
-use Rattle.std.proofs.Common.{◌≡◌, ℕ, ◌+◌, ◌-◌, ◌≤◌, ◌<◌, List, [], ◌∷◌, ◌++◌, Bool, true, false, Option, Some, None, Result, Ok, Err, inl, length, refl, sym, ap, ◌∙◌, arith, append_assoc, append-nil, length-take-le}
+use Rattle.std.proofs.Common.{◌≡◌, ℕ, ◌+◌, ◌-◌, ◌≤◌, ◌<◌, List, [], ◌∷◌, ◌++◌, Bool, true, false, Option, None, Result, Ok, Err, inl, length, refl, sym, ap, ◌∙◌, arith, append_assoc, append-nil, length-take-le}
 use Rattle.std.proofs.lemmas.List.{drop_at}
-use Rattle.wr_io.specs.declared.fault.Fault.{Fault}
 use Rattle.record_frame.specs.Errors.{unread_input}
 use Rattle.record_frame.specs.Framing.{IsInputForm, Framing, body_framing, max_entries, framing, size_of_all, entries_of, after_closing}
 use Rattle.record_frame.specs.Answers.{Output, closing_mark, answers, unclosed_answers}

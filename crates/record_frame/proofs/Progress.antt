@@ -2,9 +2,9 @@
 use Rattle.std.proofs.Common.{◌≡◌, ℕ, zero, suc, ◌+◌, ◌-◌, ◌<◌, List, [], ◌∷◌, ◌++◌, Bool, true, Option, Some, None, Result, Ok, Err, length, nat_lt, refl, sym, ap, ◌∙◌, arith, append_assoc, append-nil, length-append}
 use Rattle.wr_io.specs.declared.fault.Fault.{Fault}
 use Rattle.record_frame.specs.Errors.{unread_input, unanswered_input}
-use Rattle.record_frame.specs.Framing.{FirstRecord, entry, closing, broken, InputForm, IsInputForm, Framing, framing, size_of_all}
+use Rattle.record_frame.specs.Framing.{FirstRecord, entry, broken, InputForm, IsInputForm, Framing, framing, size_of_all}
 use Rattle.record_frame.specs.Answers.{AnswerRule, AnswersBy, output_from, unless, or_else, records_from, first_refusal, state_after, closing_mark}
-use Rattle.record_frame.specs.Reading.{StopsWithin, IsEntry, Decides, ReadCause}
+use Rattle.record_frame.specs.Reading.{StopsWithin, IsEntry, Decides}
 use Rattle.record_frame.specs.Writing.{Wrote, IsPrefix, all_but_last}
 use Rattle.record_frame.specs.Steps.{FoundRecord, nothing, whole, close, answer_to, StepLeaves, with_entries, Progress, body_answers, IsPartOfBody, FramesOneMore, BodyLeaves}
 use Rattle.record_frame.specs.declared.records.StepEnd.TheVariants.{Answered, Closed}

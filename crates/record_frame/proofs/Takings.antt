@@ -3,7 +3,7 @@ use Rattle.std.proofs.Common.{◌≡◌, ◌≢◌, ℕ, ◌+◌, ◌-◌, ◌�
 use Rattle.std.proofs.lemmas.List.{take_at, drop_at, length-replicate}
 use Rattle.std.proofs.lemmas.Bool.Decides.{nat_tests}
 use Rattle.wr_io.specs.Streams.{LeavesSome}
-use Rattle.record_frame.specs.Framing.{FirstRecord, entry, closing, broken}
+use Rattle.record_frame.specs.Framing.{FirstRecord, entry, closing, broken, map_entry}
 use Rattle.record_frame.specs.Transactions.{first_transaction, first_sized, first_payload}
 use Rattle.record_frame.specs.Reading.{Took, Gets, GetsTag, StopsWithin, IsEntry, Decides}
 use Rattle.record_frame.specs.declared.error.ReadError.{ReadError}
@@ -150,3 +150,22 @@ other_byte is_allowed x tail not_z not_t = grind (arith, nat_tests)
 -- another tag, or a transaction where none is allowed
 pub other_tag : (is_allowed : Bool) (x : ℕ) (t tail : List ℕ) → t ≡ x ∷ [] → x ≢ 90 → (x ≡ 84 → is_allowed ≡ false) → first_transaction is_allowed (t ++ tail) ≡ broken
 other_tag is_allowed x t tail e not_z not_t = ap (λ y. first_transaction is_allowed (y ++ tail)) e ∙ other_byte is_allowed x tail not_z not_t
+
+-- What decides an entry decides what a function makes of it.
+pub decides_mapped : {X Y A B : Type 0} (most : ℕ) (make : A → B) (first : List ℕ → FirstRecord A) (other : List ℕ → FirstRecord B) (found : X → List ℕ → FirstRecord A) (also : Y → List ℕ → FirstRecord B) (e : ReadError) (t r : List ℕ)
+    → ((bytes : List ℕ) → other bytes ≡ map_entry make (first bytes)) → Decides most first found (Err e) t r → Decides most other also (Err e) t r
+decides_mapped most make first other found also Broken t r same q = (same t ∙ ap (map_entry make) q.0, same (t ++ r) ∙ ap (map_entry make) q.1, stops q.2)
+  where
+    stops : StopsWithin most (IsEntry first) t r → StopsWithin most (IsEntry other) t r
+    stops (inl l) = inl l
+    stops (inr cut) = inr (record { ended = cut.ended; tail = cut.tail; whole = (make cut.whole.0, same (t ++ cut.tail) ∙ ap (map_entry make) cut.whole.1) })
+decides_mapped most make first other found also Failed t r same q = same t ∙ ap (map_entry make) q
+decides_mapped most make first other found also NoMemory t r same q = same t ∙ ap (map_entry make) q
+
+-- Where no record is in no bytes, no byte decides none.
+pub none_decides : {X R : Type 0} (most : ℕ) (first : List ℕ → FirstRecord R) (found : X → List ℕ → FirstRecord R) (e : ReadError) (t r : List ℕ) → first [] ≡ broken → GetsTag (Err e) t r → Decides most first found (Err e) t r
+none_decides most first found Broken t r none q =
+    let len = ap length q.0 in
+    (ap first q.0 ∙ none, ap first (ap (λ x. x ++ r) q.0 ∙ q.1) ∙ none, inl (omega (arith, len)))
+none_decides most first found Failed t r none q = ap first q ∙ none
+none_decides most first found NoMemory t r none q = ap first q ∙ none

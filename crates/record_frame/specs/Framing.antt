@@ -9,6 +9,12 @@ pub data FirstRecord (R : Type 0) : Type 0 where
   closing : List ℕ → FirstRecord R
   broken : FirstRecord R
 
+-- the same record with an entry that a function makes of it
+abbrev pub map_entry : {A B : Type 0} → (A → B) → FirstRecord A → FirstRecord B
+map_entry f (entry a rest) = entry (f a) rest
+map_entry f (closing rest) = closing rest
+map_entry f broken = broken
+
 -- A form of input with entries R: whether an input begins with its magic; what bytes begin with, where another entry is allowed or isn't; and how many bytes an entry takes.
 pub record InputForm (R : Type 0) : Type 0 where
   pub opens : List ℕ → Bool

@@ -1,7 +1,6 @@
 -- What a step of a command takes, keeps and writes, and what all steps do together.
 use Rattle.std.specs.Prelude.{◌≡◌, ℕ, ◌+◌, List, [], ◌∷◌, ◌++◌, length, Bool, Option, Some, None, Result, Ok, Err}
 use Rattle.wr_io.specs.Streams.{HasFailed}
-use Rattle.wr_io.specs.declared.fault.Fault.{Fault}
 use Rattle.record_frame.specs.Framing.{entry, closing, broken, InputForm, Framing, framing, size_of_all}
 use Rattle.record_frame.specs.Answers.{AnswerRule, MayRefuse, Output, unless, records_from, first_refusal, state_after, closing_mark}
 use Rattle.record_frame.specs.Reading.{StopsWithin, IsEntry}

@@ -1,4 +1,4 @@
-use Rattle.std.proofs.Common.{[], ◌++◌, Ok, Err, refl, ◌∙◌}
+use Rattle.std.proofs.Common.{[], Ok, Err, refl, ◌∙◌}
 use Rattle.std.proofs.lemmas.Result.{err_from_is_err_and}
 use Rattle.record_frame.specs.Errors.{unread_input}
 use Rattle.record_frame.specs.Answers.{output_from}
