@@ -6,7 +6,7 @@ use std::io::{BufReader, ErrorKind};
 use std::process::ExitCode;
 use std::{env, io};
 
-/// The exit status for want of memory, also where it comes before the run.
+/// The exit status where memory ran out, also before the run.
 const OUT_OF_MEMORY: u8 = 5;
 
 /// The words after the program's name. Where a word isn't text there are none, since no command has
@@ -35,7 +35,7 @@ fn start(rt: &HostRuntime) -> io::Result<u8> {
     Ok(run(rt.alloc(), &words, &mut source, &mut sink, &mut notes))
 }
 
-/// All of `main`: the exit status of the run, or that for want of memory where none began.
+/// All of `main`: the exit status of the run, or that of memory that ran out before it began.
 pub fn run_on_streams(rt: &HostRuntime) -> ExitCode {
     match start(rt) {
         Ok(status) => ExitCode::from(status),

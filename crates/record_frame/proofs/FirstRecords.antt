@@ -50,19 +50,19 @@ payload_more n a b p t h =
 -- four bytes of length, and a payload
 record IsSized (bytes p t : List ℕ) : Type 0 where
   some : 4 ≤ length bytes
-  front : first_payload (from_le_bytes w32 (take 4 bytes)) (drop 4 bytes) ≡ entry p t
+  payload : first_payload (from_le_bytes w32 (take 4 bytes)) (drop 4 bytes) ≡ entry p t
 
 sized_is : (bytes p t : List ℕ) → first_sized bytes ≡ entry p t → IsSized bytes p t
 sized_is bytes p t h = by_test (nat_lt (length bytes) 4) refl h
   where
     by_test : (z : Bool) → nat_lt (length bytes) 4 ≡ z → cond z broken (first_payload (from_le_bytes w32 (take 4 bytes)) (drop 4 bytes)) ≡ entry p t → IsSized bytes p t
     by_test true l e = cc e
-    by_test false l e = record { some = grind (arith, nat_tests); front = e }
+    by_test false l e = record { some = grind (arith, nat_tests); payload = e }
 
 pub sized_size : (bytes p t : List ℕ) → first_sized bytes ≡ entry p t → length bytes ≡ 4 + (length p + length t)
 sized_size bytes p t h =
     let is = sized_is bytes p t h in
-    let parts = ap length (payload_is (from_le_bytes w32 (take 4 bytes)) (drop 4 bytes) p t is.front).parts in
+    let parts = ap length (payload_is (from_le_bytes w32 (take 4 bytes)) (drop 4 bytes) p t is.payload).parts in
     omega (arith, is.some, parts, length-append p t, length-drop 4 bytes)
 
 sized_long : (bytes : List ℕ) → 4 ≤ length bytes → first_sized bytes ≡ first_payload (from_le_bytes w32 (take 4 bytes)) (drop 4 bytes)
@@ -75,7 +75,7 @@ sized_more a b p t h =
     let is = sized_is a p t h in
     let long : 4 ≤ length (a ++ b) = omega (arith, is.some, length-append a b) in
     sized_long (a ++ b) long ∙ ap₂ (λ (x y : List ℕ). first_payload (from_le_bytes w32 x) y) (take-append-le 4 a b is.some) (drop-append-le 4 a b is.some)
-    ∙ payload_more (from_le_bytes w32 (take 4 a)) (drop 4 a) b p t is.front
+    ∙ payload_more (from_le_bytes w32 (take 4 a)) (drop 4 a) b p t is.payload
 
 -- how long it is
 pub transaction_size : (m : Bool) (bytes p t : List ℕ) → first_transaction m bytes ≡ entry p t → length bytes ≡ 5 + (length p + length t)

@@ -9,7 +9,7 @@ use Rattle.record_frame.specs.Writing.{IsPrefix, all_but_last}
 pub some_left : (n : ℕ) → nat_lt 0 (suc n) ≡ true
 some_left n = grind (arith, nat_tests)
 
--- what is behind an entry in front
+-- the bytes after an entry
 abbrev rest_in : {R : Type 0} → FirstRecord R → List ℕ
 rest_in (entry r t) = t
 rest_in (closing t) = []
@@ -44,36 +44,36 @@ module _ {R : Type 0} (form : InputForm R) (is : IsInputForm form) where
       let f : form.first true bytes ≡ entry p [] = ap (λ b. form.first b bytes) (sym (some_left n)) ∙ e in
       framing_more n bytes p [] f ∙ ap (λ g. record { entries = p ∷ g.entries; after = g.after }) (framing_empty n)
 
-  -- an entry in front is the first
+  -- the first record, where it is an entry, is the first entry
   pub framing_first : (n : ℕ) (bytes : List ℕ) (p : R) (t : List ℕ) → form.first (nat_lt 0 n) bytes ≡ entry p t → (f : Framing R) × (framing form n bytes ≡ record { entries = p ∷ f.entries; after = f.after })
   framing_first zero bytes p t e = absurd (is.allowed bytes p t e)
   framing_first (suc n) bytes p t e =
       let f : form.first true bytes ≡ entry p t = ap (λ b. form.first b bytes) (sym (some_left n)) ∙ e in
       (framing form n t, framing_more n bytes p t f)
 
-  -- without a whole entry in front there are no entries
+  -- where the first record is no entry, there are none
   pub no_entries : (n : ℕ) (bytes : List ℕ) → ((p : R) (t : List ℕ) → form.first (nat_lt 0 n) bytes ≡ entry p t → ⊥) → (framing form n bytes).entries ≡ []
-  no_entries n bytes not_any = by_front (form.first (nat_lt 0 n) bytes) refl
+  no_entries n bytes not_any = by_first (form.first (nat_lt 0 n) bytes) refl
     where
-      by_front : (f : FirstRecord R) → form.first (nat_lt 0 n) bytes ≡ f → (framing form n bytes).entries ≡ []
-      by_front (entry p t) e = absurd (not_any p t e)
-      by_front (closing t) e = ap (λ g. g.entries) (framing_close n bytes t e)
-      by_front broken e = ap (λ g. g.entries) (framing_none n bytes e)
+      by_first : (f : FirstRecord R) → form.first (nat_lt 0 n) bytes ≡ f → (framing form n bytes).entries ≡ []
+      by_first (entry p t) e = absurd (not_any p t e)
+      by_first (closing t) e = ap (λ g. g.entries) (framing_close n bytes t e)
+      by_first broken e = ap (λ g. g.entries) (framing_none n bytes e)
 
   -- With more bytes the entries stay, and more may follow.
   pub entries_stay : (n : ℕ) (a b : List ℕ) → IsPrefix (framing form n a).entries (framing form n (a ++ b)).entries
   entries_stay zero a b = rw (no_entries zero a (λ p t e. is.allowed a p t e)) ((framing form zero (a ++ b)).entries, refl)
-  entries_stay (suc n) a b = by_front (λ t. entries_stay n t b) (form.first true a) refl
+  entries_stay (suc n) a b = by_first (λ t. entries_stay n t b) (form.first true a) refl
     where
       none : ((p : R) (t : List ℕ) → form.first true a ≡ entry p t → ⊥) → IsPrefix (framing form (suc n) a).entries (framing form (suc n) (a ++ b)).entries
       none not_any = rw (no_entries (suc n) a (λ p t e. not_any p t (ap (λ m. form.first m a) (sym (some_left n)) ∙ e))) ((framing form (suc n) (a ++ b)).entries, refl)
 
-      by_front : ((t : List ℕ) → IsPrefix (framing form n t).entries (framing form n (t ++ b)).entries) → (f : FirstRecord R) → form.first true a ≡ f → IsPrefix (framing form (suc n) a).entries (framing form (suc n) (a ++ b)).entries
-      by_front stay (entry p t) e =
+      by_first : ((t : List ℕ) → IsPrefix (framing form n t).entries (framing form n (t ++ b)).entries) → (f : FirstRecord R) → form.first true a ≡ f → IsPrefix (framing form (suc n) a).entries (framing form (suc n) (a ++ b)).entries
+      by_first stay (entry p t) e =
           let more = stay t in
           rw (framing_more n a p t e, framing_more n (a ++ b) p (t ++ b) (is.stays true a b p t e)) (more.0, ap (λ l. p ∷ l) more.1)
-      by_front stay (closing t) e = none (λ p u f. cc (sym e ∙ f))
-      by_front stay broken e = none (λ p u f. cc (sym e ∙ f))
+      by_first stay (closing t) e = none (λ p u f. cc (sym e ∙ f))
+      by_first stay broken e = none (λ p u f. cc (sym e ∙ f))
 
   -- Without its last byte a whole entry is none.
   pub cut_first : (m : Bool) (bytes : List ℕ) (q p : R) (t : List ℕ) → form.first m bytes ≡ entry q [] → form.first m (all_but_last bytes) ≡ entry p t → ⊥

@@ -27,9 +27,9 @@ module _ {R S : Type 0} (form : InputForm R) (is : IsInputForm form) (rule : Ans
       let stay = entries_stay form is n (all_but_last bytes) cut.0 in
       records_prefix rule (framing form n (all_but_last bytes)).entries (framing form n bytes).entries s (stay.0, ap (λ l. (framing form n l).entries) cut.1 ∙ stay.1)
 
-  -- ---- what a replay has done
+  -- ---- what a command has done
 
-  -- A replay begins.
+  -- A command begins.
   pub progress_start : (all : ℕ) (state : S) (w : Option (List ℕ)) (rest : List ℕ) → Progress form rule all all state state w w [] rest
   progress_start all state w rest =
       record { done = []; steps = λ tail. refl; size = refl; state = refl; none = refl; wrote = nothing_written w }

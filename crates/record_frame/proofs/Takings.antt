@@ -44,7 +44,7 @@ pub nothing_taken : (start : Option (List ℕ)) (P : List ℕ → List ℕ → T
 nothing_taken None P f = tt
 nothing_taken (Some b) P f = record { taken = []; rest = b; split = refl; now = refl; fact = f b }
 
--- more is be taken
+-- more may be taken
 pub stops_more : (few many : ℕ) (P : List ℕ → Type 0) (t r : List ℕ) → few ≤ many → StopsWithin few P t r → StopsWithin many P t r
 stops_more few many P t r le (inl l) = inl (omega (arith, l))
 stops_more few many P t r le (inr cut) = inr cut
@@ -162,7 +162,7 @@ decides_mapped most make first other found also Broken t r same q = (same t ∙ 
 decides_mapped most make first other found also Failed t r same q = same t ∙ ap (map_entry make) q
 decides_mapped most make first other found also NoMemory t r same q = same t ∙ ap (map_entry make) q
 
--- Where no record is in no bytes, no byte decides none.
+-- An empty list of bytes holds no record, so a missing tag decides that there is none.
 pub none_decides : {X R : Type 0} (most : ℕ) (first : List ℕ → FirstRecord R) (found : X → List ℕ → FirstRecord R) (e : ReadError) (t r : List ℕ) → first [] ≡ broken → GetsTag (Err e) t r → Decides most first found (Err e) t r
 none_decides most first found Broken t r none q =
     let len = ap length q.0 in

@@ -1,4 +1,4 @@
--- Files of transactions: the magic WRT1, payloads behind T and their length, and Z at the end.
+-- Files of transactions: the magic WRT1, payloads after T and their length, and Z at the end.
 use Rattle.std.specs.Prelude.{ℕ, ◌+◌, List, [], ◌∷◌, length, take, drop, codes, Bool, ◌&&◌, ◌||◌, nat_eq, nat_lt, ◌==◌, if◌then◌else◌}
 use Rattle.std.specs.Int.{w32, from_le_bytes}
 use Rattle.std.specs.List.{starts_with}

@@ -30,6 +30,7 @@ pub trait Session: Drop {
     /// The answer to each entry, and the state after it.
     ghost rule: { AnswerRule Self.Entry Self.State };
 
+    /// The state that a session is in.
     ghost state: { Self → Self.State };
 
     /// Whether an input begins with these four bytes.

@@ -41,6 +41,7 @@ pub trait AnswerPayload: Drop {
     /// What the answers depend on beside the payload.
     ghost State: { Type 0 };
 
+    /// The state that a command is in.
     ghost state: { Self → Self.State };
 
     /// The answer to each payload, and the state after it.

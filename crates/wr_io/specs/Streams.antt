@@ -7,13 +7,13 @@ abbrev pub HasFailed : ℕ → ℕ → Type 0
 HasFailed old new = new ≢ 18446744073709551615 → old < new
 
 -- one more, up to the last value of a u64
-abbrev pub counted : ℕ → ℕ
-counted n = min (n + 1) 18446744073709551615
+abbrev pub next_count : ℕ → ℕ
+next_count n = min (n + 1) 18446744073709551615
 
 -- the count of failed calls after one more call
 abbrev pub failures_after : {X : Type 0} → Result X Failed → ℕ → ℕ
 failures_after (Ok x) failures = failures
-failures_after (Err e) failures = counted failures
+failures_after (Err e) failures = next_count failures
 
 -- n bytes of those that were left are now the first n of out, and the others are left; n is 0, for an out with room, only where none was left
 pub record ReadsFrom (bytes : List ℕ) (new : Option (List ℕ)) (out : List ℕ) (n : ℕ) : Type 0 where

@@ -7,8 +7,8 @@ ghost use Rattle.wr_io.specs.Reading.{Takes, byte_at, bytes_at, number_at, signe
 
 use std::marker::Model;
 
-/// Where reading stands in some bytes. Each reader answers `None`, and the cursor stays, exactly where
-/// fewer bytes are left than it takes.
+/// A position in some bytes, from which they are read. Each reader answers `None`, and the cursor stays,
+/// exactly where fewer bytes are left than it takes.
 #[derive(Debug, Drop)]
 pub struct Cursor<'a> {
     rest: &'a [u8],

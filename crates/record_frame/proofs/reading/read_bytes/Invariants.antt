@@ -2,7 +2,7 @@ use Rattle.std.proofs.Common.{◌≡◌, ◌≤◌, ◌-◌, length, IfSome, Lis
 use Rattle.record_frame.specs.Reading.{Took}
 use Rattle.record_frame.proofs.reading.read_bytes.Given as goal
 
--- what was taken stands in the payload
+-- the payload is what was taken
 abbrev pub invariant-loop-source : goal.invariant-loop-source
 invariant-loop-source g l = record {
   within : length l.payload.items ≤ l.size;
