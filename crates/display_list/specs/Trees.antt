@@ -24,7 +24,7 @@ mutual
     iframe : Spot → ℕ → Tree
     hit_area : Spot → ℕ → Tree
 
-  -- items in order, back to prefix
+  -- items in order, back to front
   pub data Trees : Type 0 where
     none : Trees
     more : Tree → Trees → Trees
