@@ -64,3 +64,6 @@ alpha_sum-rest sa da k = omega (arith, product-le_left da sa k)
 -- a source byte and what its alpha leaves fit a byte
 pub over_fits : (sa s d : ℕ) → s ≤ sa → sa < 2 ^ 8 → d < 2 ^ 8 → s + (d - product d sa) < 2 ^ 8
 over_fits sa s d h k l = let rest : d - product d sa ≤ 255 - product 255 sa = rest-mono d 255 sa (omega arith) k in omega (arith, product-full_left sa k)
+
+pub alpha_sum_byte : (sa da : ℕ) → sa < 2 ^ 8 → da < 2 ^ 8 → alpha_sum sa da < 2 ^ 8
+alpha_sum_byte sa da h k = let rest : da - product da sa ≤ 255 - product 255 sa = rest-mono da 255 sa (omega arith) h in omega (arith, product-full_left sa h, product-le_left da sa h)

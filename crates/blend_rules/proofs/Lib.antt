@@ -1,5 +1,6 @@
 pub mod Products
 pub mod Channels
 pub mod Blends
-pub mod Rows
 pub mod Premultiplied
+pub mod Pixels
+pub mod Rows

@@ -1,5 +1,5 @@
 -- Colours of four bytes, premultiplied: what scaling and blending give, in nine modes.
-use Rattle.std.specs.Prelude.{ℕ, ◌+◌, ◌-◌, ◌*◌, ◌/◌, ◌≤◌, min, max, nat_le, Bool, ◌&&◌, List, [], ◌∷◌, slice_index, if◌then◌else◌}
+use Rattle.std.specs.Prelude.{ℕ, ◌+◌, ◌-◌, ◌*◌, ◌/◌, ◌≤◌, ◌<◌, ◌^◌, min, max, nat_le, Bool, ◌&&◌, List, [], ◌∷◌, slice_index, if◌then◌else◌}
 use Rattle.blend_rules.specs.declared.colour.Px.{Px}
 use Rattle.blend_rules.specs.declared.mode.Mode.{Mode}
 use Rattle.blend_rules.specs.declared.mode.Mode.TheVariants.{Normal, Multiply, Screen, Overlay, Darken, Lighten, HardLight, Difference, Exclusion}
@@ -9,6 +9,11 @@ pub record IsPremultiplied (p : Px) : Type 0 where
   pub blue : p.b ≤ p.a
   pub green : p.g ≤ p.a
   pub red : p.r ≤ p.a
+
+-- a premultiplied colour of four bytes
+pub record IsPixel (p : Px) : Type 0 where
+  pub premultiplied : IsPremultiplied p
+  pub byte : p.a < 2 ^ 8
 
 -- whether no colour byte exceeds alpha
 unfoldable pub is_premultiplied : Px → Bool

@@ -1,2 +1,4 @@
 pub mod Colour
 pub mod Laws
+pub mod Pixels
+pub mod Planes

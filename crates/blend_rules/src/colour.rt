@@ -1,7 +1,9 @@
 ghost use Rattle.std.specs.Prelude.{◌≡◌, ◌↔◌, IsTrue};
 
+use crate::Plane;
+
 /// A premultiplied colour: blue, green, red and alpha, each 0 to 255.
-#[derive(Clone, Copy, Debug, PartialEq, Eq, Hash)]
+#[derive(Clone, Copy, Debug, PartialEq, Eq, PartialOrd, Ord, Hash)]
 pub struct Px {
     pub b: u8,
     pub g: u8,
@@ -11,6 +13,7 @@ pub struct Px {
 
 impl Px {
     ghost use Rattle.blend_rules.specs.Colour.{IsPremultiplied, is_premultiplied};
+    ghost use Rattle.blend_rules.specs.Planes.{channel};
 
     /// The colour without any light or cover.
     pub const CLEAR: Px = Px {
@@ -27,5 +30,17 @@ impl Px {
         ensures fact { IsTrue result ↔ IsPremultiplied self }
     {
         self.b <= self.a && self.g <= self.a && self.r <= self.a
+    }
+
+    /// Its byte in a plane.
+    pub fn channel(self, plane: Plane) -> u8
+        ensures { result ≡ channel plane self }
+    {
+        match plane {
+            Plane::B => self.b,
+            Plane::G => self.g,
+            Plane::R => self.r,
+            Plane::A => self.a,
+        }
     }
 }

@@ -4,11 +4,14 @@
 mod colour;
 mod laws;
 mod mode;
+mod plane;
 mod rules;
 #[cfg(test)]
 mod tests;
+mod values;
 
 pub use colour::Px;
-pub use laws::blend_laws;
+pub use laws::{blend_laws, pixel_laws, product_laws, scale_laws};
 pub use mode::Mode;
+pub use plane::Plane;
 pub use rules::{blend, mul, scale};

@@ -1,6 +1,9 @@
-ghost use Rattle.std.specs.Prelude.{◌≡◌, ◌≤◌, ◌+◌, ◌-◌};
-ghost use Rattle.blend_rules.specs.Colour.{product, IsPremultiplied, clear, scaled, blended, source_over};
+ghost use Rattle.std.specs.Prelude.{◌≡◌, ◌≤◌, ◌+◌, ◌-◌, min};
+ghost use Rattle.blend_rules.specs.Colour.{product, IsPremultiplied, clear, alpha_sum, scaled, blended, source_over};
 
+use super::values::{
+    Darkened, Differing, Excluded, HardLit, Lightened, ModeValue, Multiplied, Overlaid, Screened,
+};
 use crate::{Mode, Px};
 
 /// `floor((x * y + x) / 256)`: `x` times `y` of 255, nearly. It is not symmetric: `mul(1, 128)` is 0
@@ -61,10 +64,69 @@ fn over_bytes(s: Px, d: Px) -> Px
     }
 }
 
-/// The colour `s` blended over `d`. The mode is `Normal`.
+/// The alpha of a source under the alpha `sa`, over a backdrop under `da`.
+#[inline(always)]
+fn alpha_of(sa: u8, da: u8) -> u8
+    ensures { result ≡ alpha_sum sa da }
+{
+    over(sa, sa, da)
+}
+
+/// A mode's value on one channel, held below the alpha of both.
+#[inline(always)]
+fn channel_by<V: ModeValue>(alpha: u8, sa: u8, da: u8, s: u8, d: u8) -> u8
+    requires source { s ≤ sa }
+    requires backdrop { d ≤ da }
+    ensures { result ≡ min alpha (V.value sa da s d) }
+{
+    V::of(sa, da, s, d).min(alpha as u16) as u8
+}
+
+/// A source over a backdrop by a mode's value.
+#[inline(always)]
+fn blend_by<V: ModeValue>(s: Px, d: Px) -> Px
+    requires source { IsPremultiplied s }
+    requires backdrop { IsPremultiplied d }
+    ensures { result ≡ record {
+      b = min (alpha_sum s.a d.a) (V.value s.a d.a s.b d.b);
+      g = min (alpha_sum s.a d.a) (V.value s.a d.a s.g d.g);
+      r = min (alpha_sum s.a d.a) (V.value s.a d.a s.r d.r);
+      a = alpha_sum s.a d.a;
+    } }
+{
+    let alpha = alpha_of(s.a, d.a);
+    Px {
+        b: channel_by::<V>(alpha, s.a, d.a, s.b, d.b),
+        g: channel_by::<V>(alpha, s.a, d.a, s.g, d.g),
+        r: channel_by::<V>(alpha, s.a, d.a, s.r, d.r),
+        a: alpha,
+    }
+}
+
+/// The mode is chosen once, outside the channels.
+#[inline(always)]
+#[tactic(auto, unfolding(crate::specs::Colour::blended))]
+fn blend_in(m: Mode, s: Px, d: Px) -> Px
+    requires source { IsPremultiplied s }
+    requires backdrop { IsPremultiplied d }
+    ensures { result ≡ blended m s d }
+{
+    match m {
+        Mode::Normal => over_bytes(s, d),
+        Mode::Multiply => blend_by::<Multiplied>(s, d),
+        Mode::Screen => blend_by::<Screened>(s, d),
+        Mode::Overlay => blend_by::<Overlaid>(s, d),
+        Mode::Darken => blend_by::<Darkened>(s, d),
+        Mode::Lighten => blend_by::<Lightened>(s, d),
+        Mode::HardLight => blend_by::<HardLit>(s, d),
+        Mode::Difference => blend_by::<Differing>(s, d),
+        Mode::Exclusion => blend_by::<Excluded>(s, d),
+    }
+}
+
+/// The colour `s` blended over `d` in a mode. Both must be premultiplied.
 #[inline(always)]
 pub fn blend(m: Mode, s: Px, d: Px) -> Px
-    requires mode { m ≡ Mode.Normal }
     requires source { IsPremultiplied s }
     requires backdrop { IsPremultiplied d }
     ensures value { result ≡ blended m s d }
@@ -74,8 +136,5 @@ pub fn blend(m: Mode, s: Px, d: Px) -> Px
     ensures opaque { m ≡ Mode.Normal → s.a ≡ 255 → result ≡ s }
     ensures no_limit { m ≡ Mode.Normal → result ≡ source_over s d }
 {
-    match m {
-        Mode::Normal => over_bytes(s, d),
-        _ => unreachable!(),
-    }
+    blend_in(m, s, d)
 }

@@ -3,7 +3,7 @@ use Rattle.std.proofs.Common.{◌≡◌, ℕ, ◌+◌, ◌≤◌, ◌<◌, List,
 use Rattle.std.proofs.lemmas.Bool.{cases_lt}
 use Rattle.std.proofs.lemmas.List.{get_or-set_same, get_or-set_other}
 
--- the bytes from one place up to another are what f says, and all others are old
+-- the bytes from one index up to another are what f says, and all others are old
 pub record IsWritten (f : ℕ → ℕ) (from to : ℕ) (old now : List ℕ) : Type 0 where
   pub scaled : (k : ℕ) → from ≤ k → k < to → get_or now k 0 ≡ f k
   pub below : (k : ℕ) → k < from → get_or now k 0 ≡ get_or old k 0

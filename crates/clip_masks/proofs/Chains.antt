@@ -1,15 +1,20 @@
 -- Chains of clips.
-use Rattle.std.proofs.Common.{◌≡◌, ℕ, zero, suc, ◌+◌, ◌-◌, ◌<◌, ◌≤◌, ◌^◌, ℤ, List, [], ◌∷◌, length, get_or, take, Bool, true, false, ◌&&◌, if◌then◌else◌, refl, sym, ap, ap₂, ◌∙◌, true≢false, arith}
+use Rattle.std.proofs.Common.{◌≡◌, ℕ, zero, suc, ◌+◌, ◌-◌, ◌<◌, ◌≤◌, ◌^◌, ℤ, ◌+ℤ◌, List, [], ◌∷◌, length, get_or, take, Bool, true, false, ◌&&◌, if◌then◌else◌, refl, sym, ap, ap₂, ◌∙◌, true≢false, arith}
+use Rattle.std.proofs.lemmas.List.Elements.{All-head, All-tail}
 use Rattle.std.proofs.lemmas.List.Sums.{fold_more, count_by-le-length}
 use Rattle.wr_geom.specs.Bounds.{Bounds, holds, intersection}
 use Rattle.wr_geom.proofs.Points.{intersection_points}
+use Rattle.wr_geom.proofs.Rects.{intersection_in_first, intersection_in_second}
 use Rattle.blend_rules.specs.Colour.{product}
-use Rattle.blend_rules.proofs.Products.{product-zero_left, product-zero_right, product-le_left}
+use Rattle.blend_rules.proofs.Products.{product-full_right, product-zero_left, product-zero_right, product-le_left}
 use Rattle.clip_masks.specs.Outline.{Outline, is_inside, sample_points, samples_inside, share}
 use Rattle.clip_masks.specs.Coverage.{coverage, chain_coverage, cut_by}
+use Rattle.clip_masks.specs.Clips.{IsRectClip, shifted_clips}
+use Rattle.clip_masks.specs.Laws.{CoverageIsByte, ChainOfNone, ChainOfBoth, ChainOfNothing, ChainAtMostOuter, ShiftedChainCoversMoved, CutIsInside, ChainBesideCut, ChainWithinCut}
 use Rattle.clip_masks.specs.declared.clip.Clip.{Clip}
 use Rattle.clip_masks.proofs.Points.{samples_beside}
 use Rattle.clip_masks.proofs.Rows.{coverage_at}
+use Rattle.clip_masks.proofs.Moves.{rect_coverage, shifted_coverage}
 
 -- one clip more
 pub chain_more : (clips : List Clip) (i : ℕ) (d : Clip) (outer : ℕ) (x y : ℤ) → i < length clips
@@ -28,7 +33,7 @@ pub cut_step : (clips : List Clip) (i : ℕ) (d : Clip) (b left next : Bounds) �
 cut_step clips i d b left next h was item is =
     is ∙ ap₂ (λ (k : Clip) (r : Bounds). if k.out then r else intersection r k.shape.rect) item was ∙ sym (cut_more clips i d b h)
 
-pub chain_none : (outer : ℕ) (x y : ℤ) → chain_coverage [] outer x y ≡ outer
+pub chain_none : ChainOfNone
 unfolding chain_coverage
 chain_none outer x y = refl
 
@@ -37,7 +42,7 @@ unfolding cut_by
 cut_none b = refl
 
 -- once nothing is left, nothing comes back
-chain_zero : (clips : List Clip) (x y : ℤ) → chain_coverage clips 0 x y ≡ 0
+pub chain_zero : ChainOfNothing
 unfolding chain_coverage
 chain_zero [] x y = refl
 chain_zero (k ∷ ks) x y = ap (λ (c : ℕ). chain_coverage ks c x y) (product-zero_left (coverage k x y)) ∙ chain_zero ks x y
@@ -46,7 +51,7 @@ samples_most : (s : Outline) (x y : ℤ) → samples_inside s x y ≤ 16
 unfolding samples_inside
 samples_most s x y = count_by-le-length (λ (p : ℤ × ℤ). is_inside s p.0 p.1) (sample_points x y)
 
-pub coverage_byte : (c : Clip) (x y : ℤ) → coverage c x y < 2 ^ 8
+pub coverage_byte : CoverageIsByte
 unfolding coverage
 coverage_byte c x y = by_mode c.out
   where
@@ -76,9 +81,8 @@ unfolding chain_coverage cut_by
 leaves_nothing [] x y b outer l h n = absurd (true≢false (sym h ∙ n))
 leaves_nothing (k ∷ ks) x y b outer l h n = by_mode k ks b outer x y k.out (leaves_nothing ks x y) l h refl n
 
--- what a cut leaves out the clips leave nothing of
-pub beside_cut : (clips : List Clip) (b : Bounds) (outer : ℕ) (x y : ℤ) → outer < 2 ^ 8 → holds b x y ≡ true → holds (cut_by b clips) x y ≡ false → chain_coverage clips outer x y ≡ 0
-beside_cut clips b outer x y l h n = leaves_nothing clips x y b outer l h n
+pub beside_cut : ChainBesideCut
+beside_cut b clips outer x y l h n = leaves_nothing clips x y b outer l h n
 
 -- a list from which no more is taken than it has
 pub take_all : (n : ℕ) (clips : List Clip) → length clips ≤ n → take n clips ≡ clips
@@ -86,3 +90,51 @@ take_all zero [] h = refl
 take_all zero (k ∷ ks) h = absurd (omega arith)
 take_all (suc n) [] h = refl
 take_all (suc n) (k ∷ ks) h = ap (λ (cs : List Clip). k ∷ cs) (take_all n ks (omega arith))
+
+-- ---- chains in parts, bytes, and moved chains
+
+pub chain-append : ChainOfBoth
+unfolding chain_coverage
+chain-append [] second outer x y = refl
+chain-append (k ∷ first) second outer x y = chain-append first second (product outer (coverage k x y)) x y
+
+pub chain_at_most : ChainAtMostOuter
+unfolding chain_coverage
+chain_at_most [] outer x y = omega arith
+chain_at_most (k ∷ ks) outer x y =
+    let rest : chain_coverage ks (product outer (coverage k x y)) x y ≤ product outer (coverage k x y) = chain_at_most ks (product outer (coverage k x y)) x y in
+    omega (arith, rest, product-le_left outer (coverage k x y) (coverage_byte k x y))
+
+pub chain_byte : (clips : List Clip) (outer : ℕ) (x y : ℤ) → outer < 2 ^ 8 → chain_coverage clips outer x y < 2 ^ 8
+chain_byte clips outer x y h = let most = chain_at_most clips outer x y in omega arith
+
+pub shifted_chain : ShiftedChainCoversMoved
+unfolding chain_coverage
+shifted_chain [] by outer x y = refl
+shifted_chain (k ∷ ks) by outer x y =
+    ap (λ (c : ℕ). chain_coverage (shifted_clips ks by) (product outer c) (x +ℤ by.x) (y +ℤ by.y)) (shifted_coverage k by x y)
+    ∙ shifted_chain ks by (product outer (coverage k x y)) x y
+
+-- ---- the cut of a rectangle
+
+cut_first : (k : Clip) (b : Bounds) (x y : ℤ) (t : Bool) → holds (if t then b else intersection b k.shape.rect) x y ≡ true → holds b x y ≡ true
+cut_first k b x y true h = h
+cut_first k b x y false h = intersection_in_first b k.shape.rect x y h
+
+pub cut_inside : CutIsInside
+unfolding cut_by
+cut_inside b [] x y h = h
+cut_inside b (k ∷ ks) x y h = cut_first k b x y k.out (cut_inside (if k.out then b else intersection b k.shape.rect) ks x y h)
+
+cut_second : (k : Clip) (b : Bounds) (x y : ℤ) → k.out ≡ false → holds (if k.out then b else intersection b k.shape.rect) x y ≡ true → holds k.shape.rect x y ≡ true
+cut_second k b x y e h = intersection_in_second b k.shape.rect x y (ap (λ (t : Bool). holds (if t then b else intersection b k.shape.rect) x y) (sym e) ∙ h)
+
+pub within_cut : ChainWithinCut
+unfolding cut_by chain_coverage
+within_cut b [] outer x y all h = refl
+within_cut b (k ∷ ks) outer x y all h =
+    let next = if k.out then b else intersection b k.shape.rect in
+    let is = All-head IsRectClip k ks all in
+    let here : holds k.shape.rect x y ≡ true = cut_second k b x y is.inwards (cut_inside next ks x y h) in
+    let full : coverage k x y ≡ 255 = rect_coverage k x y is ∙ ap (λ (t : Bool). if t then 255 else 0) here in
+    ap (λ (c : ℕ). chain_coverage ks c x y) (ap (product outer) full ∙ product-full_right outer) ∙ within_cut next ks outer x y (All-tail IsRectClip k ks all) h

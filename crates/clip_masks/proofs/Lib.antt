@@ -4,3 +4,4 @@ pub mod Moves
 pub mod Points
 pub mod Rows
 pub mod Sides
+pub mod Clips

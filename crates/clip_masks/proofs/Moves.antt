@@ -6,8 +6,11 @@ use Rattle.wr_geom.specs.Bounds.{Bounds, holds, shifted}
 use Rattle.wr_geom.specs.declared.point.Point.{Point}
 use Rattle.wr_geom.specs.declared.sides.Radii.{Radii}
 use Rattle.wr_geom.proofs.Points.{same_bounds, shifted_points}
-use Rattle.clip_masks.specs.Outline.{Outline, eighths, enlarged, is_excluded, is_inside, samples_inside}
-use Rattle.clip_masks.specs.Coverage.{coverage, square, IsRectClip, moved}
+use Rattle.clip_masks.specs.Outline.{Outline, eighths, enlarged, is_excluded, is_inside, samples_inside, shifted_outline}
+use Rattle.wr_geom.specs.Sides.{square}
+use Rattle.clip_masks.specs.Coverage.{coverage}
+use Rattle.clip_masks.specs.Clips.{IsRectClip, rect_clip, shifted_clip}
+use Rattle.clip_masks.specs.Laws.{ShiftedHasMovedSamples, ShiftedCoversMoved}
 use Rattle.clip_masks.specs.declared.clip.Clip.{Clip}
 use Rattle.clip_masks.proofs.Points.{excludes_beside, has_pixel, samples_beside, samples_whole}
 use Rattle.clip_masks.proofs.Rows.{coverage_at}
@@ -33,6 +36,10 @@ square_by c x y false is h = coverage_at c x y false 0 is.inwards (samples_besid
 pub rect_coverage : (c : Clip) (x y : ℤ) → IsRectClip c → coverage c x y ≡ (if holds c.shape.rect x y then 255 else 0)
 rect_coverage c x y is = square_by c x y (holds c.shape.rect x y) is refl
 
+-- the rectangle clip on a rectangle
+pub rect_clip_coverage : (b : Bounds) (x y : ℤ) → coverage (rect_clip b) x y ≡ (if holds b x y then 255 else 0)
+rect_clip_coverage b x y = rect_coverage (rect_clip b) x y (record { inwards = refl; corners = refl })
+
 -- ---- moves
 
 -- shapes with the same samples in two pixels have the same count there
@@ -50,8 +57,8 @@ from_left z d p r i = omega (arith, ints)
 from_right : (z d p : ℤ) (r i : ℕ) → (eighths (p +ℤ d) +ℤ pos i) -ℤ eighths ((z +ℤ d) -ℤ pos r) ≡ (eighths p +ℤ pos i) -ℤ eighths (z -ℤ pos r)
 from_right z d p r i = omega (arith, ints)
 
-place_moved : (p d : ℤ) (i : ℕ) → eighths (p +ℤ d) +ℤ pos i ≡ (eighths p +ℤ pos i) +ℤ eighths d
-place_moved p d i = omega (arith, ints)
+coordinate_moved : (p d : ℤ) (i : ℕ) → eighths (p +ℤ d) +ℤ pos i ≡ (eighths p +ℤ pos i) +ℤ eighths d
+coordinate_moved p d i = omega (arith, ints)
 
 edge_moved : (z d : ℤ) → eighths (z +ℤ d) ≡ eighths z +ℤ eighths d
 edge_moved z d = omega (arith, ints)
@@ -60,7 +67,7 @@ rect_moved : (b : Bounds) (by : Point) (x y : ℤ) (i j : ℕ) → holds (enlarg
 unfolding in_eighths
 rect_moved b by x y i j =
     ap (λ (r : Bounds). holds r (eighths (x +ℤ by.x) +ℤ pos i) (eighths (y +ℤ by.y) +ℤ pos j)) (same_bounds (enlarged (shifted b by)) (shifted (enlarged b) (in_eighths by)) (edge_moved b.x0 by.x) (edge_moved b.y0 by.y) (edge_moved b.x1 by.x) (edge_moved b.y1 by.y))
-    ∙ ap₂ (λ (v w : ℤ). holds (shifted (enlarged b) (in_eighths by)) v w) (place_moved x by.x i) (place_moved y by.y j)
+    ∙ ap₂ (λ (v w : ℤ). holds (shifted (enlarged b) (in_eighths by)) v w) (coordinate_moved x by.x i) (coordinate_moved y by.y j)
     ∙ shifted_points (enlarged b) (in_eighths by) (eighths x +ℤ pos i) (eighths y +ℤ pos j)
 
 excluded_moved : (s : Outline) (by : Point) (x y : ℤ) (i j : ℕ) → is_excluded (record { rect = shifted s.rect by; radii = s.radii }) (eighths (x +ℤ by.x) +ℤ pos i) (eighths (y +ℤ by.y) +ℤ pos j) ≡ is_excluded s (eighths x +ℤ pos i) (eighths y +ℤ pos j)
@@ -82,9 +89,10 @@ inside_moved : (s : Outline) (by : Point) (x y : ℤ) (i j : ℕ) → is_inside 
 unfolding is_inside
 inside_moved s by x y i j = ap₂ (λ (p q : Bool). p && not q) (rect_moved s.rect by x y i j) (excluded_moved s by x y i j)
 
--- a moved clip covers the moved pixels
-pub moved_coverage : (c : Clip) (by : Point) (x y : ℤ) → coverage (moved c by) (x +ℤ by.x) (y +ℤ by.y) ≡ coverage c x y
-moved_coverage c by x y =
-    let t : Outline = record { rect = shifted c.shape.rect by; radii = c.shape.radii } in
-    let same = samples_same t c.shape (x +ℤ by.x) (y +ℤ by.y) x y (λ i j. inside_moved c.shape by x y i j) in
-    coverage_at (moved c by) (x +ℤ by.x) (y +ℤ by.y) c.out (samples_inside c.shape x y) refl same ∙ sym (coverage_at c x y c.out (samples_inside c.shape x y) refl refl)
+pub shifted_samples : ShiftedHasMovedSamples
+shifted_samples s by x y = samples_same (shifted_outline s by) s (x +ℤ by.x) (y +ℤ by.y) x y (λ i j. inside_moved s by x y i j)
+
+pub shifted_coverage : ShiftedCoversMoved
+shifted_coverage c by x y =
+    coverage_at (shifted_clip c by) (x +ℤ by.x) (y +ℤ by.y) c.out (samples_inside c.shape x y) refl (shifted_samples c.shape by x y)
+    ∙ sym (coverage_at c x y c.out (samples_inside c.shape x y) refl refl)

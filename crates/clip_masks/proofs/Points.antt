@@ -6,7 +6,7 @@ use Rattle.std.proofs.lemmas.Int.{ints}
 use Rattle.std.proofs.lemmas.Bool.{and_parts, and_left, or_left, or_right, lt-ltb, ltb-true}
 use Rattle.wr_geom.specs.Bounds.{Bounds, holds}
 use Rattle.wr_geom.proofs.Points.{inside, holds_it, misses_it}
-use Rattle.clip_masks.specs.Outline.{Outline, squared, is_beyond, eighths, enlarged, excludes, is_excluded, is_inside, places, sample_points, samples_inside}
+use Rattle.clip_masks.specs.Outline.{Outline, squared, is_beyond, eighths, enlarged, excludes, is_excluded, is_inside, sample_coordinates, sample_points, samples_inside}
 use Rattle.clip_masks.specs.Corners.{HasPixel, LiesWithin, IsOutward, excludes_tip}
 use Rattle.clip_masks.specs.declared.corner.Outward.{Outward}
 
@@ -115,7 +115,7 @@ answer_at r n x y i j t u e k f g h =
 pub has_pixel : (r : Bounds) (x y : ℤ) → holds r x y ≡ true → HasPixel r x y
 has_pixel r x y e = let h = inside r x y e in record { left = h.left; right = h.right; top = h.top; bottom = h.bottom }
 
--- a place within a pixel of the rectangle lies in the rectangle
+-- a point within a pixel of the rectangle lies in the rectangle
 pub pixel_lies : (r : Bounds) (x y : ℤ) (i j : ℕ) → HasPixel r x y → i < 8 → j < 8 → LiesWithin r (eighths x +ℤ pos i) (eighths y +ℤ pos j)
 pixel_lies r x y i j h p q = record { left = omega (arith, ints, h.left); right = omega (arith, ints, h.right); top = omega (arith, ints, h.top); bottom = omega (arith, ints, h.bottom) }
 
@@ -205,10 +205,10 @@ samples_gone s x y h e = samples_all s x y false (λ i j p q u v. gone_sample s 
 
 -- the count, a row of four at a time
 pub samples_by_rows : (s : Outline) (x y : ℤ) (k l m n : ℕ)
-    → k ≡ count_by (λ (a : ℤ). is_inside s a (eighths y +ℤ pos 1)) (places x)
-    → l ≡ count_by (λ (a : ℤ). is_inside s a (eighths y +ℤ pos 3)) (places x)
-    → m ≡ count_by (λ (a : ℤ). is_inside s a (eighths y +ℤ pos 5)) (places x)
-    → n ≡ count_by (λ (a : ℤ). is_inside s a (eighths y +ℤ pos 7)) (places x)
+    → k ≡ count_by (λ (a : ℤ). is_inside s a (eighths y +ℤ pos 1)) (sample_coordinates x)
+    → l ≡ count_by (λ (a : ℤ). is_inside s a (eighths y +ℤ pos 3)) (sample_coordinates x)
+    → m ≡ count_by (λ (a : ℤ). is_inside s a (eighths y +ℤ pos 5)) (sample_coordinates x)
+    → n ≡ count_by (λ (a : ℤ). is_inside s a (eighths y +ℤ pos 7)) (sample_coordinates x)
     → k + l + m + n ≡ samples_inside s x y
 unfolding samples_inside
 samples_by_rows s x y k l m n e f g h = omega (arith, e, f, g, h)

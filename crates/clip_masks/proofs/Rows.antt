@@ -65,31 +65,31 @@ full_spans s y r n m first last ok top bottom p q is =
           gone_right at (q.gone _ (omega (arith, ints, clamps, at.right))));
     }
 
--- ---- places of a row
+-- ---- indices of a row
 
--- the first place of a row of len pixels from x0 that is at or beyond the edge, or len
-pub record IsPlace (edge x0 : ℤ) (len n : ℕ) : Type 0 where
+-- the first index of a row of len pixels from x0 that is at or beyond the edge, or len
+pub record IsIndexOf (edge x0 : ℤ) (len n : ℕ) : Type 0 where
   pub within : n ≤ len
   pub before : (k : ℕ) → k < n → (x0 +ℤ pos k) <ℤ edge
   pub after : (k : ℕ) → n ≤ k → k < len → edge ≤ℤ (x0 +ℤ pos k)
 
--- a later edge has a later place
-pub place_order : (e f x0 : ℤ) (len n m : ℕ) → e ≤ℤ f → IsPlace e x0 len n → IsPlace f x0 len m → n ≤ m
-place_order e f x0 len n m h p q = elim (cases_lt m n) [
+-- a later edge has a later index
+pub index_order : (e f x0 : ℤ) (len n m : ℕ) → e ≤ℤ f → IsIndexOf e x0 len n → IsIndexOf f x0 len m → n ≤ m
+index_order e f x0 len n m h p q = elim (cases_lt m n) [
   | inl less ↦ let before = p.before m less in let after = q.after m (omega arith) (omega (arith, p.within)) in absurd (omega (arith, ints))
   | inr more ↦ more
 ]
 
--- the places of a row's spans
+-- the indices of a row's spans
 pub record ArePlaces (r : Spans) (x0 : ℤ) (len i j m n : ℕ) : Type 0 where
-  pub left : IsPlace r.left x0 len i
-  pub from : IsPlace r.from x0 len j
-  pub to : IsPlace r.to x0 len m
-  pub right : IsPlace r.right x0 len n
+  pub left : IsIndexOf r.left x0 len i
+  pub from : IsIndexOf r.from x0 len j
+  pub to : IsIndexOf r.to x0 len m
+  pub right : IsIndexOf r.right x0 len n
 
 -- a pixel between two edges in range is in range
-pub place_range : (e f x0 : ℤ) (len n m k : ℕ) → IsCoordinate e → IsCoordinate f → IsPlace e x0 len n → IsPlace f x0 len m → n ≤ k → k < m → IsCoordinate (x0 +ℤ pos k)
-place_range e f x0 len n m k a b p q h l =
+pub index_range : (e f x0 : ℤ) (len n m k : ℕ) → IsCoordinate e → IsCoordinate f → IsIndexOf e x0 len n → IsIndexOf f x0 len m → n ≤ k → k < m → IsCoordinate (x0 +ℤ pos k)
+index_range e f x0 len n m k a b p q h l =
     let after = p.after k h (omega (arith, q.within)) in
     let before = q.before k l in
     record { low = omega (arith, ints, a.low); high = omega (arith, ints, b.high) }
@@ -168,9 +168,9 @@ pub row_inwards : (c : Clip) (y x0 : ℤ) (r : Spans) (len left from to right : 
     → IsWritten (λ _. 0) 0 left last past → IsWritten (λ _. 0) right len past now
     → (k : ℕ) → k < len → get_or now k 0 ≡ product (get_or old k 0) (coverage c (x0 +ℤ pos k) y)
 row_inwards c y x0 r len left from to right old mid last past now e is at fits v w t u =
-    let f = place_order r.left r.from x0 len left from is.first at.left at.from in
-    let g = place_order r.from r.to x0 len from to is.second at.from at.to in
-    let h = place_order r.to r.right x0 len to right is.third at.to at.right in
+    let f = index_order r.left r.from x0 len left from is.first at.left at.from in
+    let g = index_order r.from r.to x0 len from to is.second at.from at.to in
+    let h = index_order r.to r.right x0 len to right is.third at.to at.right in
     cleared_around (λ k. product (get_or old k 0) (coverage c (x0 +ℤ pos k) y)) len left from to right old last past now (scaled_twice (λ k. coverage c (x0 +ℤ pos k) y) left from to right old mid last f g h v w) t u f g h
     (λ k p. ap (product (get_or old k 0)) (coverage_at c (x0 +ℤ pos k) y false 0 e (is.before (x0 +ℤ pos k) (at.left.before k p))) ∙ product-zero_right (get_or old k 0) (fits k))
     (λ k p q. ap (product (get_or old k 0)) (coverage_at c (x0 +ℤ pos k) y false 16 e (is.solid (x0 +ℤ pos k) (at.from.after k p (omega (arith, at.to.within))) (at.to.before k q))) ∙ product-full_right (get_or old k 0))
@@ -184,9 +184,9 @@ pub row_outwards : (c : Clip) (y x0 : ℤ) (r : Spans) (len left from to right :
     → IsWritten (λ _. 0) from to last now
     → (k : ℕ) → k < len → get_or now k 0 ≡ product (get_or old k 0) (coverage c (x0 +ℤ pos k) y)
 row_outwards c y x0 r len left from to right old mid last now e is at fits v w t =
-    let f = place_order r.left r.from x0 len left from is.first at.left at.from in
-    let g = place_order r.from r.to x0 len from to is.second at.from at.to in
-    let h = place_order r.to r.right x0 len to right is.third at.to at.right in
+    let f = index_order r.left r.from x0 len left from is.first at.left at.from in
+    let g = index_order r.from r.to x0 len from to is.second at.from at.to in
+    let h = index_order r.to r.right x0 len to right is.third at.to at.right in
     cleared_within (λ k. product (get_or old k 0) (coverage c (x0 +ℤ pos k) y)) len left from to right old last now (scaled_twice (λ k. coverage c (x0 +ℤ pos k) y) left from to right old mid last f g h v w) t f g h
     (λ k p. ap (product (get_or old k 0)) (coverage_at c (x0 +ℤ pos k) y true 0 e (is.before (x0 +ℤ pos k) (at.left.before k p))) ∙ product-full_right (get_or old k 0))
     (λ k p q. ap (product (get_or old k 0)) (coverage_at c (x0 +ℤ pos k) y true 16 e (is.solid (x0 +ℤ pos k) (at.from.after k p (omega (arith, at.to.within))) (at.to.before k q))) ∙ product-zero_right (get_or old k 0) (fits k))

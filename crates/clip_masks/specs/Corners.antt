@@ -5,8 +5,8 @@ use Rattle.clip_masks.specs.Outline.{Outline, eighths, excludes}
 use Rattle.clip_masks.specs.declared.corner.Outward.{Outward}
 use Rattle.clip_masks.specs.declared.side.Side.{Side}
 
--- a distance of at most two to the 40th eighths of a pixel, not outward
-pub record IsNear (z : ℤ) : Type 0 where
+-- a distance inward, or none, of at most two to the 40th eighths of a pixel
+pub record IsInward (z : ℤ) : Type 0 where
   pub low : neg_ℤ (pos (2 ^ 40)) ≤ℤ z
   pub high : z ≤ℤ pos 0
 
@@ -43,10 +43,10 @@ pub record IsOutward (r : Bounds) (a b c d : ℤ) (o : Outward) : Type 0 where
   pub top : o.top ≡ eighths r.y0 -ℤ b
   pub right : o.right ≡ c -ℤ eighths r.x1
   pub bottom : o.bottom ≡ d -ℤ eighths r.y1
-  pub beside : IsNear o.left
-  pub above : IsNear o.top
-  pub beyond : IsNear o.right
-  pub below : IsNear o.bottom
+  pub beside : IsInward o.left
+  pub above : IsInward o.top
+  pub beyond : IsInward o.right
+  pub below : IsInward o.bottom
 
 -- how far a point i eighths beyond so many pixels inward lies outward
 abbrev pub outward : ℕ → ℕ → ℤ

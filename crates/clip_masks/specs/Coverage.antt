@@ -1,9 +1,7 @@
 -- How much of a pixel clips cover, of 255.
-use Rattle.std.specs.Prelude.{◌≡◌, ℕ, ◌-◌, ℤ, false, List, if◌then◌else◌}
+use Rattle.std.specs.Prelude.{ℕ, ◌-◌, ℤ, List, if◌then◌else◌}
 use Rattle.std.specs.List.{fold}
-use Rattle.wr_geom.specs.Bounds.{Bounds, intersection, shifted}
-use Rattle.wr_geom.specs.declared.point.Point.{Point}
-use Rattle.wr_geom.specs.declared.sides.Radii.{Radii}
+use Rattle.wr_geom.specs.Bounds.{Bounds, intersection}
 use Rattle.blend_rules.specs.Colour.{product}
 use Rattle.clip_masks.specs.Outline.{samples_inside, share}
 use Rattle.clip_masks.specs.declared.clip.Clip.{Clip}
@@ -19,16 +17,3 @@ chain_coverage clips outer x y = fold (λ c clip. product c (coverage clip x y))
 -- the rectangle cut by the rectangle of each clip of mode in
 unfoldable pub cut_by : Bounds → List Clip → Bounds
 cut_by b clips = fold (λ r clip. if clip.out then r else intersection r clip.shape.rect) b clips
-
--- the radii of a rectangle without round corners
-abbrev pub square : Radii
-square = record { tl = (0, 0); tr = (0, 0); br = (0, 0); bl = (0, 0) }
-
--- a clip of mode in without round corners
-pub record IsRectClip (c : Clip) : Type 0 where
-  pub inwards : c.out ≡ false
-  pub corners : c.shape.radii ≡ square
-
--- the clip with its rectangle moved, and all else kept
-abbrev pub moved : Clip → Point → Clip
-moved c by = record { shape = record { rect = shifted c.shape.rect by; radii = c.shape.radii }; out = c.out }

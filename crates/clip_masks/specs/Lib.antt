@@ -1,4 +1,6 @@
+pub mod Clips
 pub mod Corners
 pub mod Coverage
+pub mod Laws
 pub mod Outline
 pub mod Spans

@@ -1,7 +1,8 @@
 -- Rounded rectangles, and which of a pixel's sixteen sample points lie in one.
-use Rattle.std.specs.Prelude.{ℕ, ◌+◌, ◌-◌, ◌*◌, ◌/◌, ◌≤◌, ℤ, pos, ◌+ℤ◌, ◌-ℤ◌, ◌*ℤ◌, ◌≤ℤ◌, Bool, ◌&&◌, ◌||◌, not, int_lt, nat_lt, unsigned_abs, List, [], ◌∷◌, map}
+use Rattle.std.specs.Prelude.{ℕ, ◌+◌, ◌-◌, ◌*◌, ◌/◌, ℤ, pos, ◌+ℤ◌, ◌-ℤ◌, ◌*ℤ◌, Bool, ◌&&◌, ◌||◌, not, int_lt, nat_lt, unsigned_abs, List, [], ◌∷◌, map}
 use Rattle.std.specs.List.{count_by, flat_map}
-use Rattle.wr_geom.specs.Bounds.{Bounds, holds}
+use Rattle.wr_geom.specs.Bounds.{Bounds, holds, shifted}
+use Rattle.wr_geom.specs.declared.point.Point.{Point}
 use Rattle.wr_geom.specs.declared.sides.Radii.{Radii}
 use Rattle.wr_geom.specs.declared.sides.Widths.{Widths}
 
@@ -10,36 +11,17 @@ pub record Outline : Type 0 where
   pub rect : Bounds
   pub radii : Radii
 
--- no radius of a corner is greater than 4096 pixels
-pub record IsSmallCorner (r : ℕ × ℕ) : Type 0 where
-  pub across : r.0 ≤ 4096
-  pub down : r.1 ≤ 4096
-
--- no radius is greater than 4096 pixels
-pub record HasSmallRadii (r : Radii) : Type 0 where
-  pub tl : IsSmallCorner r.tl
-  pub tr : IsSmallCorner r.tr
-  pub br : IsSmallCorner r.br
-  pub bl : IsSmallCorner r.bl
-
--- two radii of one side fit on it, each beside the other
-pub record FitsSides (b : Bounds) (r : Radii) : Type 0 where
-  pub top : pos (r.tl.0 + r.tr.0) ≤ℤ (b.x1 -ℤ b.x0)
-  pub right : pos (r.tr.1 + r.br.1) ≤ℤ (b.y1 -ℤ b.y0)
-  pub bottom : pos (r.bl.0 + r.br.0) ≤ℤ (b.x1 -ℤ b.x0)
-  pub left : pos (r.tl.1 + r.bl.1) ≤ℤ (b.y1 -ℤ b.y0)
-
 -- a number of pixels in eighths of a pixel
 abbrev pub eighths : ℤ → ℤ
 eighths z = pos 8 *ℤ z
 
--- a pixel's four sample places on one axis, in eighths of a pixel
-abbrev pub places : ℤ → List ℤ
-places z = (eighths z +ℤ pos 1) ∷ ((eighths z +ℤ pos 3) ∷ ((eighths z +ℤ pos 5) ∷ ((eighths z +ℤ pos 7) ∷ [])))
+-- the coordinates of a pixel's four sample lines on one axis, in eighths of a pixel
+abbrev pub sample_coordinates : ℤ → List ℤ
+sample_coordinates z = (eighths z +ℤ pos 1) ∷ ((eighths z +ℤ pos 3) ∷ ((eighths z +ℤ pos 5) ∷ ((eighths z +ℤ pos 7) ∷ [])))
 
 -- the sixteen sample points of the pixel (x, y), in eighths of a pixel
 abbrev pub sample_points : ℤ → ℤ → List (ℤ × ℤ)
-sample_points x y = flat_map (λ b. map (λ a. (a, b)) (places x)) (places y)
+sample_points x y = flat_map (λ b. map (λ a. (a, b)) (sample_coordinates x)) (sample_coordinates y)
 
 -- a number times itself
 abbrev pub squared : ℕ → ℕ
@@ -108,7 +90,6 @@ inset_of s w = record {
   };
 }
 
--- opposite widths fit beside each other
-pub record FitsWidths (b : Bounds) (w : Widths) : Type 0 where
-  pub across : pos (w.left + w.right) ≤ℤ (b.x1 -ℤ b.x0)
-  pub down : pos (w.top + w.bottom) ≤ℤ (b.y1 -ℤ b.y0)
+-- the shape moved by a number of pixels
+abbrev pub shifted_outline : Outline → Point → Outline
+shifted_outline s by = record { rect = shifted s.rect by; radii = s.radii }

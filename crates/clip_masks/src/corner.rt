@@ -1,6 +1,7 @@
 ghost use Rattle.std.specs.Prelude.{◌≡◌, ◌*◌, ◌^◌, ◌≤◌, ◌+ℤ◌, pos};
-ghost use Rattle.clip_masks.specs.Outline.{IsSmallCorner, excludes, is_beyond, eighths};
-ghost use Rattle.clip_masks.specs.Corners.{IsNear, LiesWithin, IsOutward};
+ghost use Rattle.clip_masks.specs.Outline.{excludes, is_beyond, eighths};
+ghost use Rattle.wr_geom.specs.Sides.{IsSmallCorner};
+ghost use Rattle.clip_masks.specs.Corners.{IsInward, LiesWithin, IsOutward};
 
 use wr_geom::Rect;
 
@@ -34,8 +35,8 @@ pub(crate) fn outward_of(rect: Rect, a: i64, b: i64, c: i64, d: i64) -> Outward
 #[tactic(auto, unfolding(crate::specs::Outline::excludes))]
 pub(crate) fn excludes(radii: (u16, u16), across: i64, down: i64) -> bool
     requires small { IsSmallCorner radii }
-    requires beside { IsNear across }
-    requires below { IsNear down }
+    requires beside { IsInward across }
+    requires below { IsInward down }
     ensures { result ≡ excludes radii (across +ℤ eighths (pos radii.0)) (down +ℤ eighths (pos radii.1)) }
 {
     let dx = across + 8 * radii.0 as i64;

@@ -8,6 +8,7 @@
 mod chain;
 mod clip;
 mod corner;
+mod laws;
 mod row;
 mod samples;
 mod shape;
@@ -15,8 +16,9 @@ mod share;
 mod side;
 mod spans;
 
-pub use chain::{cover_row, cut};
+pub use chain::{cover_row, cut, shift_clips};
 pub use clip::Clip;
+pub use laws::{chain_laws, clip_laws, clip_order_laws};
 pub use shape::Rounded;
 
 #[cfg(test)]

@@ -18,10 +18,10 @@ impl Clip {
     {
         let spans = self.shape.spans(y);
         let len = out.len();
-        let left = place_of(spans.left, x0, len);
-        let from = place_of(spans.from, x0, len);
-        let to = place_of(spans.to, x0, len);
-        let right = place_of(spans.right, x0, len);
+        let left = index_of(spans.left, x0, len);
+        let from = index_of(spans.from, x0, len);
+        let to = index_of(spans.to, x0, len);
+        let right = index_of(spans.right, x0, len);
         self.scale_part(y, x0, left, from, out);
         self.scale_part(y, x0, to, right, out);
         if self.out {
@@ -32,7 +32,7 @@ impl Clip {
         }
     }
 
-    /// Multiplies the bytes from place `from` up to `to` by the clip's cover, pixel by pixel.
+    /// Multiplies the bytes from index `from` up to `to` by the clip's cover, pixel by pixel.
     fn scale_part(&self, y: i32, x0: i32, from: usize, to: usize, out: &mut [u8])
         requires ordered { from ≤ to }
         requires within { to ≤ length out.old }
@@ -49,7 +49,7 @@ impl Clip {
     }
 }
 
-/// Fills the bytes from place `from` up to `to` with 0.
+/// Fills the bytes from index `from` up to `to` with 0.
 fn clear_part(from: usize, to: usize, out: &mut [u8])
     requires ordered { from ≤ to }
     requires within { to ≤ length out.old }
@@ -60,8 +60,8 @@ fn clear_part(from: usize, to: usize, out: &mut [u8])
     out[from..to].fill(0);
 }
 
-/// The place of the first pixel at or beyond `edge` in a row that begins at `x0`, at most `len`.
-fn place_of(edge: i32, x0: i32, len: usize) -> usize
+/// The index of the first pixel at or beyond `edge` in a row that begins at `x0`, at most `len`.
+fn index_of(edge: i32, x0: i32, len: usize) -> usize
     ensures within { result ≤ len }
     ensures before { (k : ℕ) → k < result → (x0 +ℤ pos k) <ℤ edge }
     ensures after { (k : ℕ) → result ≤ k → k < len → edge ≤ℤ (x0 +ℤ pos k) }

@@ -1,6 +1,6 @@
 ghost use Rattle.std.specs.Prelude.{◌≡◌, ◌≤◌, ◌<◌, ◌+ℤ◌, pos, not, if◌then◌else◌};
 ghost use Rattle.std.specs.List.{count_by};
-ghost use Rattle.clip_masks.specs.Outline.{eighths, places, is_inside, samples_inside};
+ghost use Rattle.clip_masks.specs.Outline.{eighths, sample_coordinates, is_inside, samples_inside};
 ghost use Rattle.clip_masks.specs.Corners.{HasPixel, LiesWithin, excludes_tip};
 
 use super::Rounded;
@@ -35,7 +35,7 @@ impl Rounded {
     fn kept_of_four(&self, x: i32, y: i32, j: u8) -> u8
         requires pixel { HasPixel self.now.rect x y }
         requires within { j < 8 }
-        ensures value { result ≡ count_by (λ a. is_inside self.now a (eighths y +ℤ pos j)) (places x) }
+        ensures value { result ≡ count_by (λ a. is_inside self.now a (eighths y +ℤ pos j)) (sample_coordinates x) }
         ensures at_most { result ≤ 4 }
     {
         self.kept(x, y, 1, j)
@@ -53,7 +53,7 @@ impl Rounded {
         ensures value { result ≡ (if is_inside self.now (eighths x +ℤ pos i) (eighths y +ℤ pos j) then 1 else 0) }
         ensures at_most { result ≤ 1 }
     {
-        let (a, b) = (place(x, i), place(y, j));
+        let (a, b) = (coordinate(x, i), coordinate(y, j));
         if self.keeps_tips(a, b, a, b) { 1 } else { 0 }
     }
 
@@ -69,10 +69,10 @@ impl Rounded {
             (eighths x +ℤ pos last) (eighths y +ℤ pos last)) }
     {
         self.keeps_tips(
-            place(x, first),
-            place(y, first),
-            place(x, last),
-            place(y, last),
+            coordinate(x, first),
+            coordinate(y, first),
+            coordinate(x, last),
+            coordinate(y, last),
         )
     }
 
@@ -99,9 +99,9 @@ impl Rounded {
     }
 }
 
-/// A place some eighths of a pixel from the start of one, in eighths of a pixel.
+/// The coordinate `more` eighths from the start of a pixel, in eighths of a pixel.
 #[inline(always)]
-fn place(pixel: i32, more: u8) -> i64
+fn coordinate(pixel: i32, more: u8) -> i64
     ensures { result ≡ eighths pixel +ℤ pos more }
 {
     8 * pixel as i64 + more as i64

@@ -1,6 +1,6 @@
 ghost use Rattle.std.specs.Prelude.{◌≡◌, ◌≤◌, ◌<◌, ℕ, true, false};
-ghost use Rattle.clip_masks.specs.Outline.{IsSmallCorner};
-ghost use Rattle.clip_masks.specs.Corners.{IsNear, outward, side_excludes};
+ghost use Rattle.wr_geom.specs.Sides.{IsSmallCorner};
+ghost use Rattle.clip_masks.specs.Corners.{IsInward, outward, side_excludes};
 ghost use Rattle.clip_masks.specs.Spans.{AreEnds};
 
 use super::corner::excludes;
@@ -95,7 +95,7 @@ fn reach_of(radii: (u16, u16), rows: u32) -> u16
 #[inline(always)]
 fn outward(pixels: u32, i: u8) -> i64
     ensures value { result ≡ outward pixels i }
-    ensures near { IsNear result }
+    ensures near { IsInward result }
 {
     -(8 * pixels as i64 + i as i64)
 }

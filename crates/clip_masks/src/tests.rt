@@ -1,7 +1,8 @@
 ghost use Rattle.std.specs.Prelude.{◌≡◌, ◌≤◌, ◌<◌, ◌^◌, IfOk};
 
-use super::{Clip, Rounded, cover_row, cut};
+use super::{Clip, Rounded, chain_laws, clip_laws, clip_order_laws, cover_row, cut, shift_clips};
 use std::alloc::{AllocError, Global};
+use std::cmp::Ordering;
 use std::test::Fail;
 use wr_geom::{Point, Radii, Rect, Widths};
 
@@ -191,5 +192,24 @@ fn cuts_and_moves(rt: HostRuntime) -> Result<(), Fail> {
     assert_eq!(rt; cut(&clips, rect(-3, 4, 20, 30)?), rect(0, 4, 8, 8)?);
     let moved = plain.shift(Point { x: 10, y: -1 });
     assert_eq!(rt; moved.shape.rect(), rect(10, -1, 18, 7)?);
+    Ok(())
+}
+
+#[test]
+fn compares_and_moves_chains(rt: HostRuntime) -> Result<(), Fail> {
+    let plain = Clip::of_rect(rect(0, 0, 8, 8)?);
+    let hole = Clip { out: true, ..plain };
+    assert!(rt; plain.is_rect());
+    assert!(rt; plain.is_same(&Clip::of_rect(rect(0, 0, 8, 8)?)));
+    assert!(rt; !plain.is_same(&hole));
+    assert_eq!(rt; plain.cmp(&hole), Ordering::Less);
+    let by = Point { x: -4, y: 2 };
+    assert_eq!(rt; hole.shape.shift(by).rect(), rect(-4, 2, 4, 10)?);
+    let mut chain = [plain, hole];
+    shift_clips(&mut chain, by);
+    assert_eq!(rt; chain, [plain.shift(by), hole.shift(by)]);
+    clip_laws();
+    chain_laws();
+    clip_order_laws();
     Ok(())
 }

@@ -1,6 +1,6 @@
 -- What passes as a definition is spelled in one way and may follow, and what may follow passes.
-use Rattle.std.proofs.Common.{◌≡◌, ℕ, zero, suc, ◌+◌, ◌<◌, ◌≤◌, ◌^◌, Bool, true, false, eqb, ltb, leb, List, [], ◌∷◌, ◌++◌, length, refl, sym, ap, subst, ◌∙◌, arith, inl, inr}
-use Rattle.std.specs.Prelude.{MatchBool, All, IsTrue, IsFalse, slice_index}
+use Rattle.std.proofs.Common.{◌≡◌, ℕ, ◌+◌, ◌<◌, ◌≤◌, ◌^◌, Bool, true, false, eqb, ltb, leb, List, [], ◌∷◌, ◌++◌, length, refl, sym, ap, subst, ◌∙◌, arith, inl, inr}
+use Rattle.std.specs.Prelude.{MatchBool, All, IsTrue, slice_index}
 use Rattle.std.specs.List.{list_any, flat_map}
 use Rattle.std.proofs.lemmas.Bool.{eqb-true, ltb-false, le-ltb}
 use Rattle.std.proofs.lemmas.Bool.Decides.{nat_tests}
@@ -9,7 +9,7 @@ use Rattle.wr_geom.specs.Bounds.{Bounds}
 use Rattle.wr_geom.specs.Sides.{IsSmallCorner, square}
 use Rattle.field_forms.specs.Form.{done, bind, Passes}
 use Rattle.field_forms.specs.Fields.{reference}
-use Rattle.field_forms.specs.Facts.{IsRectangle, IsReference, IsOptionalReference}
+use Rattle.field_forms.specs.Facts.{IsReference, IsOptionalReference}
 use Rattle.field_forms.specs.Spelling.{u16_bytes, u32_bytes, i32_bytes, optional_bytes, flag_bytes, rectangle_bytes}
 use Rattle.field_forms.proofs.Passing.{HasSpelling, with_fact, refuse_if_spelling, times_spelling, when_true, when_false, either, by_true, by_false, joined, alone, at_end}
 use Rattle.field_forms.proofs.Spelled.{byte_bytes, byte_spelling, u16_spelling, flag_spelling, reference_spelling, optional_reference_spelling, optional_number_spelling, coordinate_spelling, rectangle_spelling}
@@ -24,7 +24,7 @@ use Rattle.display_list.specs.PartialList.{PartialList, takes_nodes, takes_clips
 use Rattle.display_list.specs.Facts.{AreRadii, IsNode, IsClip}
 use Rattle.display_list.specs.Following.{IsNewScroll, NodeFollows, ClipFollows, ChainFollows, CanFollow}
 use Rattle.display_list.specs.Parts.{parent_node, reference_frame, scroll_number, scroll_frame, rect_clip, round_clip, clip_count, chain, node_part, clip_part, chain_part, definition}
-use Rattle.display_list.specs.Spelling.{node_fields, node_tag, node_bytes, rect_clip_fields, round_clip_fields, clip_bytes, chain_fields, chain_bytes, radii_bytes, part_bytes}
+use Rattle.display_list.specs.Spelling.{node_fields, node_tag, node_bytes, rect_clip_fields, round_clip_fields, clip_bytes, chain_fields, radii_bytes, part_bytes}
 use Rattle.display_list.proofs.FieldForms.{scroll_side_spelling, corner_radii_spelling}
 
 below_64 : (k : ℕ) → leb 64 k ≡ false → k < 64

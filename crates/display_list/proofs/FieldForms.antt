@@ -1,6 +1,5 @@
 -- The spelling of each field that several parts share.
-use Rattle.std.proofs.Common.{◌≡◌, ℕ, ◌<◌, ◌≤◌, ◌^◌, ltb, List, [], refl, sym, subst, arith}
-use Rattle.std.specs.Int.{w16, w32}
+use Rattle.std.proofs.Common.{◌≡◌, ℕ, ◌≤◌, ltb, refl, sym, subst, arith}
 use Rattle.std.proofs.lemmas.Bool.{ltb-false, le-ltb}
 use Rattle.wr_io.specs.declared.fault.Code.TheVariants as code
 use Rattle.wr_geom.specs.Bounds.{Bounds}

@@ -1,6 +1,5 @@
 -- What passes as an item is spelled in one way and may follow, and what may follow passes.
-use Rattle.std.proofs.Common.{◌≡◌, ℕ, zero, suc, ◌+◌, ◌<◌, ◌≤◌, ◌^◌, Bool, true, false, eqb, ltb, leb, List, [], ◌∷◌, ◌++◌, length, refl, sym, ap, subst, ◌∙◌, arith, inl, inr, ◌⊎◌}
-use Rattle.std.specs.Prelude.{All}
+use Rattle.std.proofs.Common.{◌≡◌, ℕ, zero, suc, ◌<◌, ◌≤◌, ◌^◌, true, false, eqb, ltb, leb, List, [], ◌∷◌, length, refl, sym, ap, subst, ◌∙◌, arith, inl, inr, ◌⊎◌}
 use Rattle.std.specs.List.{flat_map}
 use Rattle.std.proofs.lemmas.Bool.{eqb-true, ltb-false, le-ltb}
 use Rattle.std.proofs.lemmas.Bool.Decides.{nat_tests}
@@ -12,9 +11,8 @@ use Rattle.blend_rules.specs.declared.mode.Mode.TheVariants.{Normal, Multiply, S
 use Rattle.wr_geom.specs.declared.sides.Radii.{Radii}
 use Rattle.wr_geom.specs.declared.sides.Widths.{Widths}
 use Rattle.field_forms.specs.Form.{done, bind, Passes}
-use Rattle.field_forms.specs.Facts.{IsReference, IsOptionalReference, FitsOptional}
 use Rattle.field_forms.specs.Spelling.{u16_bytes, u32_bytes, optional_bytes, flag_bytes}
-use Rattle.field_forms.proofs.Passing.{HasSpelling, with_fact, refuse_if_spelling, made_spelling, times_spelling, when_true, when_false, either, by_true, by_false, joined, alone, at_end}
+use Rattle.field_forms.proofs.Passing.{HasSpelling, with_fact, refuse_if_spelling, made_spelling, times_spelling, when_true, when_false, either, by_false, joined, alone, at_end}
 use Rattle.field_forms.proofs.Spelled.{byte_bytes, byte_spelling, u16_spelling, u32_spelling, flag_spelling, reference_spelling, optional_reference_spelling, optional_number_spelling, colour_spelling}
 use Rattle.display_list.specs.declared.item.Spot.{Spot}
 use Rattle.display_list.specs.declared.item.GlyphAt.{GlyphAt}
@@ -23,7 +21,7 @@ use Rattle.display_list.specs.declared.token.Token.TheVariants as token
 use Rattle.display_list.specs.declared.token.Push as push_
 use Rattle.display_list.specs.Fields.{glyph}
 use Rattle.display_list.specs.PartialList.{PartialList}
-use Rattle.display_list.specs.Facts.{IsSpot, IsBorder, IsGlyph, IsContext, IsToken}
+use Rattle.display_list.specs.Facts.{IsGlyph, IsContext, IsToken}
 use Rattle.display_list.specs.Following.{ItemFollows}
 use Rattle.display_list.specs.Parts.{solid, image, border, text, mode_of, blend_mode, push_fields, push, pop, pipeline, iframe, hit_area, primitive, item}
 use Rattle.display_list.specs.Spelling.{spot_bytes, widths_bytes, radii_bytes, glyph_bytes, push_fields_bytes, token_tag, token_fields, token_bytes}

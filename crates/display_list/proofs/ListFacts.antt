@@ -1,12 +1,12 @@
 -- What is spelled meets each check in a list's own terms, and what meets them is spelled.
-use Rattle.std.proofs.Common.{◌≡◌, ◌≢◌, ℕ, suc, ◌+◌, ◌-◌, ◌<◌, ◌≤◌, Bool, true, false, List, [], ◌∷◌, ◌++◌, length, map, get_or, Option, Some, None, refl, sym, ap, subst, ◌∙◌, append_assoc, arith, inl, inr, ◌⊎◌}
+use Rattle.std.proofs.Common.{◌≡◌, ℕ, ◌+◌, ◌<◌, ◌≤◌, Bool, true, false, List, [], ◌∷◌, ◌++◌, length, map, get_or, Option, Some, None, refl, sym, ap, subst, ◌∙◌, append_assoc, arith, inl, inr, ◌⊎◌}
 use Rattle.std.specs.Prelude.{All, IsTrue, slice_index, slice_index_or}
 use Rattle.std.specs.List.{AllPairs, fold, list_any}
 use Rattle.std.proofs.Math.ListN.{get_or-append}
 use Rattle.std.proofs.Math.Seq.{get_or-append_seam}
 use Rattle.std.proofs.lemmas.List.{append-nil, length-append}
 use Rattle.std.proofs.lemmas.List.Elements.{All-push, All-weaker, All-nil, All-head, All-tail}
-use Rattle.std.proofs.lemmas.List.Folds.{list_any-from_Any, list_any_none, list_any_at}
+use Rattle.std.proofs.lemmas.List.Folds.{list_any_none, list_any_at}
 use Rattle.std.proofs.lemmas.List.Quantifiers.{all_pairs_push}
 use Rattle.std.proofs.lemmas.List.Sums.{fold-append}
 use Rattle.field_forms.specs.Facts.{IsDefined, IsReference, IsOptionalReference}
@@ -23,11 +23,11 @@ use Rattle.display_list.specs.declared.token.Section.TheVariants.{Nodes, Clips, 
 use Rattle.display_list.specs.ListModel.{ListModel}
 use Rattle.display_list.specs.Levels.{parent_of, has_scroll, share_scroll, with_level, levels_of, inherited, with_total, totals_of, depth_after, MayNest, Nests}
 use Rattle.display_list.specs.PartialList.{PartialList, start, after, after_all, list_of, takes_nodes, takes_clips, takes_chains}
-use Rattle.display_list.specs.Facts.{EachAt, IsNode, AreNodes, IsClip, AreClips, AreChains, IsToken, AreItems, IsList}
+use Rattle.display_list.specs.Facts.{EachAt, IsNode, AreNodes, IsClip, AreClips, AreChains, IsToken, IsList}
 use Rattle.display_list.specs.Following.{IsNewScroll, NamesFrom, NodeFollows, ClipFollows, ChainFollows, ItemFollows, CanFollow, AllFollow}
 use Rattle.display_list.specs.Grammar.{IsSpelled}
 use Rattle.display_list.specs.Counts.{HasFewGlyphs}
-use Rattle.display_list.proofs.Lists.{IsMadeOf, made_of, all_bytes, spells_parts}
+use Rattle.display_list.proofs.Lists.{made_of, all_bytes, spells_parts}
 use Rattle.display_list.proofs.Spellings.{IsOrdered, then_clips, then_chains, starts_ordered, ordered_after}
 
 -- ---- of lists of any members

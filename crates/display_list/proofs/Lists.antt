@@ -1,8 +1,7 @@
 -- Parts that lead to a list are those that may follow one another, and their bytes are its spelling.
-use Rattle.std.proofs.Common.{◌≡◌, ℕ, ◌+◌, ◌<◌, ◌≤◌, List, [], ◌∷◌, ◌++◌, length, Some, None, refl, sym, ap, subst, ◌∙◌, append_assoc, arith}
+use Rattle.std.proofs.Common.{◌≡◌, ℕ, ◌+◌, List, [], ◌∷◌, ◌++◌, length, Some, None, refl, sym, ap, subst, ◌∙◌, append_assoc, arith}
 use Rattle.std.specs.List.{flat_map}
 use Rattle.std.proofs.lemmas.List.{append-nil}
-use Rattle.field_forms.specs.Form.{Passes}
 use Rattle.display_list.specs.declared.token.Token.{Token}
 use Rattle.display_list.specs.declared.token.Token.TheVariants.{Solid, Image, Border, Text, Push, Pop, Iframe, HitArea}
 use Rattle.display_list.specs.declared.token.Part.{Part}
@@ -10,7 +9,6 @@ use Rattle.display_list.specs.declared.token.Part.TheVariants as part
 use Rattle.display_list.specs.ListModel.{ListModel}
 use Rattle.display_list.specs.PartialList.{PartialList, start, after, after_all, list_of}
 use Rattle.display_list.specs.Following.{NamesFrom, CanFollow, AllFollow}
-use Rattle.display_list.specs.Parts.{next_part}
 use Rattle.display_list.specs.Grammar.{Lead, SpellsFrom, Spells, NamesAbove, AllNameAbove, Fits}
 use Rattle.display_list.specs.Spelling.{part_bytes}
 use Rattle.display_list.proofs.NextPart.{next_spelling}
@@ -47,10 +45,10 @@ pub record IsMadeOf (m : ℕ) (l : ListModel) (ps : List Part) : Type 0 where
 
 pub made_of : (m : ℕ) (l : ListModel) (bytes : List ℕ) (h : SpellsFrom m l bytes) → IsMadeOf m l h.parts
 made_of m l bytes h =
-    let whole : after_all start h.parts ≡ h.whole = lead_after m 0 start h.whole h.parts h.front h.lead in
-    let last = (next_spelling m h.whole).spelled (length h.front) h.last None h.ends in
+    let whole : after_all start h.parts ≡ h.whole = lead_after m 0 start h.whole h.parts h.prefix h.lead in
+    let last = (next_spelling m h.whole).spelled (length h.prefix) h.last None h.ends in
     record {
-      follow = lead_follows m 0 start h.whole h.parts h.front h.lead;
+      follow = lead_follows m 0 start h.whole h.parts h.prefix h.lead;
       closed = ap (λ (s : PartialList). s.depth) whole ∙ last.1;
       list_is = ap list_of whole ∙ h.list_is;
     }
@@ -61,16 +59,16 @@ all_bytes ps = flat_map part_bytes ps ++ 0 ∷ []
 
 pub spelled_by : (m : ℕ) (l : ListModel) (bytes : List ℕ) (h : SpellsFrom m l bytes) → bytes ≡ all_bytes h.parts
 spelled_by m l bytes h =
-    let last = (next_spelling m h.whole).spelled (length h.front) h.last None h.ends in
+    let last = (next_spelling m h.whole).spelled (length h.prefix) h.last None h.ends in
     h.bytes_are
-    ∙ ap (λ (o : List ℕ). o ++ h.last) (lead_bytes m 0 start h.whole h.parts h.front h.lead)
+    ∙ ap (λ (o : List ℕ). o ++ h.last) (lead_bytes m 0 start h.whole h.parts h.prefix h.lead)
     ∙ ap (λ (o : List ℕ). flat_map part_bytes h.parts ++ o) last.0
 
 pub spells_parts : (m : ℕ) (l : ListModel) (ps : List Part) → IsMadeOf m l ps → SpellsFrom m l (all_bytes ps)
 spells_parts m l ps h = record {
   parts = ps;
   whole = after_all start ps;
-  front = flat_map part_bytes ps;
+  prefix = flat_map part_bytes ps;
   last = 0 ∷ [];
   bytes_are = refl;
   lead = lead_of m 0 start ps h.follow;

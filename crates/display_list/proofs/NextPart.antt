@@ -1,5 +1,5 @@
 -- What passes next is a part that may follow, or the End, in its one spelling; and each of these passes.
-use Rattle.std.proofs.Common.{◌≡◌, ℕ, suc, ◌+◌, ◌<◌, ◌≤◌, Bool, true, false, eqb, leb, List, [], ◌∷◌, ◌++◌, length, Option, Some, None, refl, sym, ap, subst, ◌∙◌, arith, inl, inr}
+use Rattle.std.proofs.Common.{◌≡◌, ℕ, ◌+◌, ◌<◌, ◌≤◌, Bool, true, false, eqb, leb, List, [], ◌∷◌, length, Option, Some, None, refl, sym, ap, subst, ◌∙◌, arith, inl, inr}
 use Rattle.std.proofs.lemmas.Bool.{eqb-true}
 use Rattle.std.proofs.lemmas.Bool.Decides.{nat_tests}
 use Rattle.field_forms.specs.Form.{done, bind, choose, Passes}
@@ -13,11 +13,11 @@ use Rattle.display_list.specs.declared.token.Token.TheVariants as token
 use Rattle.display_list.specs.declared.token.Part.{Part}
 use Rattle.display_list.specs.declared.token.Part.TheVariants as part
 use Rattle.display_list.specs.PartialList.{PartialList}
-use Rattle.display_list.specs.Following.{CanFollow, ClipFollows, NextFollows}
+use Rattle.display_list.specs.Following.{ClipFollows, NextFollows}
 use Rattle.display_list.specs.Parts.{definition, item, end, next_part}
-use Rattle.display_list.specs.Spelling.{node_tag, node_fields, node_bytes, rect_clip_fields, round_clip_fields, clip_bytes, chain_fields, token_tag, token_fields, part_bytes, next_bytes}
+use Rattle.display_list.specs.Spelling.{node_fields, rect_clip_fields, round_clip_fields, clip_bytes, chain_fields, token_tag, token_fields, part_bytes, next_bytes}
 use Rattle.display_list.proofs.DefinitionForms.{PartIs, definition_spelled, node_passes, rect_clip_definition, round_clip_definition, chain_definition}
-use Rattle.display_list.proofs.ItemForms.{FollowsAs, item_spelled, item_passes}
+use Rattle.display_list.proofs.ItemForms.{item_spelled, item_passes}
 
 -- what passes next: a part, or the End
 record NextIs (m : ℕ) (s : PartialList) (bytes : List ℕ) (x : Option Part) : Type 0 where

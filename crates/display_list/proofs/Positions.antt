@@ -1,10 +1,10 @@
 -- A refusal of a part stands within the bytes, or just after them.
-use Rattle.std.proofs.Common.{◌≡◌, ℕ, ◌+◌, ◌<◌, ◌≤◌, Bool, eqb, leb, List, [], ◌++◌, length, Option, Some, None, refl, ap, arith}
+use Rattle.std.proofs.Common.{ℕ, ◌+◌, ◌≤◌, Bool, eqb, leb, List, length, ap, arith}
 use Rattle.std.proofs.lemmas.List.{length-append}
 use Rattle.wr_io.specs.declared.fault.Code.{Code}
 use Rattle.wr_io.specs.declared.fault.Code.TheVariants as code
 use Rattle.wr_geom.specs.Bounds.{Bounds}
-use Rattle.field_forms.specs.Form.{Form, choose, refuse}
+use Rattle.field_forms.specs.Form.{Form}
 use Rattle.field_forms.proofs.Within.{StaysWithin, done_within, bind_within, choose_within, refuse_within, here_within, refuse_if_within, refuse_unless_within, times_within, byte_within, number_within, flag_within, reference_within, optional_reference_within, optional_number_within, coordinate_within, rectangle_within, colour_within}
 use Rattle.display_list.specs.PartialList.{PartialList, takes_nodes, takes_clips, takes_chains}
 use Rattle.display_list.specs.Fields.{radius, corner, corners, corner_radii, four_widths, border_widths, scroll_side, spot, glyph}

@@ -35,11 +35,11 @@ ok_is x y e = cc
 -- from a standing up to the End
 record ReadTo (m : ℕ) (s : PartialList) (left : Unread) (t : PartialList) : Type 0 where
   parts : List Part
-  front : List ℕ
+  prefix : List ℕ
   last : List ℕ
-  bytes_are : left.bytes ≡ front ++ last
-  lead : Lead m left.at s parts front t
-  ends : Passes (next_part m t) (left.at + length front) last None
+  bytes_are : left.bytes ≡ prefix ++ last
+  lead : Lead m left.at s parts prefix t
+  ends : Passes (next_part m t) (left.at + length prefix) last None
 
 ended : (m : ℕ) (s t : PartialList) (left after : Unread) → Took (next_part m s) left (None, after) → next (nothing_left after) (λ _. ok s) ≡ Ok t → ReadTo m s left t
 ended m s t left after took e = by_rest (eqb (length after.bytes) 0) refl
@@ -50,11 +50,11 @@ ended m s t left after took e = by_rest (eqb (length after.bytes) 0) refl
         let place : left.at ≡ left.at + 0 = omega arith in
         subst (ReadTo m s left) (ok_is s t f) (record {
           parts = [];
-          front = [];
-          last = took.front;
-          bytes_are = took.parts ∙ ap (λ (o : List ℕ). took.front ++ o) nil ∙ append-nil took.front;
+          prefix = [];
+          last = took.prefix;
+          bytes_are = took.parts ∙ ap (λ (o : List ℕ). took.prefix ++ o) nil ∙ append-nil took.prefix;
           lead = (refl, refl);
-          ends = subst (λ (p : ℕ). Passes (next_part m s) p took.front None) place took.passes;
+          ends = subst (λ (p : ℕ). Passes (next_part m s) p took.prefix None) place took.passes;
         })
 
     by_rest : (b : Bool) → eqb (length after.bytes) 0 ≡ b → ReadTo m s left t
@@ -63,13 +63,13 @@ ended m s t left after took e = by_rest (eqb (length after.bytes) 0) refl
 
 more_read : (m : ℕ) (s t : PartialList) (p : Part) (left after_it : Unread) → Took (next_part m s) left (Some p, after_it) → ReadTo m (after s p) after_it t → ReadTo m s left t
 more_read m s t p left after_it took r =
-    let place : after_it.at + length r.front ≡ left.at + length (took.front ++ r.front) = let q = took.place in omega (arith, length-append took.front r.front) in
+    let place : after_it.at + length r.prefix ≡ left.at + length (took.prefix ++ r.prefix) = let q = took.place in omega (arith, length-append took.prefix r.prefix) in
     record {
       parts = p ∷ r.parts;
-      front = took.front ++ r.front;
+      prefix = took.prefix ++ r.prefix;
       last = r.last;
-      bytes_are = took.parts ∙ ap (λ (o : List ℕ). took.front ++ o) r.bytes_are ∙ sym (append_assoc took.front r.front r.last);
-      lead = (took.front, r.front, refl, took.passes, subst (λ (q : ℕ). Lead m q (after s p) r.parts r.front t) took.place r.lead);
+      bytes_are = took.parts ∙ ap (λ (o : List ℕ). took.prefix ++ o) r.bytes_are ∙ sym (append_assoc took.prefix r.prefix r.last);
+      lead = (took.prefix, r.prefix, refl, took.passes, subst (λ (q : ℕ). Lead m q (after s p) r.parts r.prefix t) took.place r.lead);
       ends = subst (λ (q : ℕ). Passes (next_part m t) q r.last None) place r.ends;
     }
 
@@ -100,18 +100,18 @@ end_again : (m n at : ℕ) (t : PartialList) (last more : List ℕ) → Passes (
 unfolding read_parts
 end_again m n at t last more p = rw (read_again (next_part m t) at last more None p) refl
 
-parts_again : (m n at : ℕ) (s t : PartialList) (ps : List Part) (front last more : List ℕ) → length ps < n → Lead m at s ps front t
-    → Passes (next_part m t) (at + length front) last None → read_parts m n s (record { at = at; bytes = front ++ (last ++ more) }) ≡ rest_of t (at + length front + length last) more
+parts_again : (m n at : ℕ) (s t : PartialList) (ps : List Part) (prefix last more : List ℕ) → length ps < n → Lead m at s ps prefix t
+    → Passes (next_part m t) (at + length prefix) last None → read_parts m n s (record { at = at; bytes = prefix ++ (last ++ more) }) ≡ rest_of t (at + length prefix + length last) more
 unfolding read_parts
-parts_again m zero at s t ps front last more lt lead ends = absurd (omega arith)
-parts_again m (suc n) at s t [] front last more lt (z, w) ends =
-    let place : at + length front ≡ at = ap (λ (o : List ℕ). at + length o) z ∙ omega arith in
-    let same : front ++ (last ++ more) ≡ last ++ more = ap (λ (o : List ℕ). o ++ (last ++ more)) z in
+parts_again m zero at s t ps prefix last more lt lead ends = absurd (omega arith)
+parts_again m (suc n) at s t [] prefix last more lt (z, w) ends =
+    let place : at + length prefix ≡ at = ap (λ (o : List ℕ). at + length o) z ∙ omega arith in
+    let same : prefix ++ (last ++ more) ≡ last ++ more = ap (λ (o : List ℕ). o ++ (last ++ more)) z in
     rw (same, place) (subst (λ (u : PartialList). read_parts m (suc n) u (record { at = at; bytes = last ++ more }) ≡ rest_of t (at + length last) more) w
     (end_again m n at t last more (subst (λ (p : ℕ). Passes (next_part m t) p last None) place ends)))
-parts_again m (suc n) at s t (p ∷ ps) front last more lt (piece, rest, e, passes, lead) ends =
-    let bytes_are : front ++ (last ++ more) ≡ piece ++ (rest ++ (last ++ more)) = ap (λ (o : List ℕ). o ++ (last ++ more)) e ∙ append_assoc piece rest (last ++ more) in
-    let place : at + length front ≡ at + length piece + length rest = omega (arith, ap (λ (o : List ℕ). length o) e, length-append piece rest) in
+parts_again m (suc n) at s t (p ∷ ps) prefix last more lt (piece, rest, e, passes, lead) ends =
+    let bytes_are : prefix ++ (last ++ more) ≡ piece ++ (rest ++ (last ++ more)) = ap (λ (o : List ℕ). o ++ (last ++ more)) e ∙ append_assoc piece rest (last ++ more) in
+    let place : at + length prefix ≡ at + length piece + length rest = omega (arith, ap (λ (o : List ℕ). length o) e, length-append piece rest) in
     rw (bytes_are, place, read_again (next_part m s) at piece (rest ++ (last ++ more)) (Some p) passes)
     (parts_again m n (at + length piece) (after s p) t ps rest last more (omega arith) lead (subst (λ (q : ℕ). Passes (next_part m t) q last None) place ends))
 
@@ -127,27 +127,27 @@ lead_longer m at s t (p ∷ ps) bytes (piece, rest, e, passes, lead) =
 record FaultyFrom (m : ℕ) (s : PartialList) (left : Unread) (f : Fault) : Type 0 where
   parts : List Part
   whole : PartialList
-  front : List ℕ
+  prefix : List ℕ
   rest : List ℕ
-  bytes_are : left.bytes ≡ front ++ rest
-  lead : Lead m left.at s parts front whole
-  fails : FailsNext m (left.at + length front) whole rest f.code f.at
+  bytes_are : left.bytes ≡ prefix ++ rest
+  lead : Lead m left.at s parts prefix whole
+  fails : FailsNext m (left.at + length prefix) whole rest f.code f.at
 
 at_once : (m : ℕ) (s : PartialList) (left : Unread) (f : Fault) → FailsNext m left.at s left.bytes f.code f.at → FaultyFrom m s left f
 at_once m s left f h =
     let place : left.at ≡ left.at + 0 = omega arith in
-    record { parts = []; whole = s; front = []; rest = left.bytes; bytes_are = refl; lead = (refl, refl); fails = subst (λ (p : ℕ). FailsNext m p s left.bytes f.code f.at) place h }
+    record { parts = []; whole = s; prefix = []; rest = left.bytes; bytes_are = refl; lead = (refl, refl); fails = subst (λ (p : ℕ). FailsNext m p s left.bytes f.code f.at) place h }
 
 more_faulty : (m : ℕ) (s : PartialList) (p : Part) (left after_it : Unread) (f : Fault) → Took (next_part m s) left (Some p, after_it) → FaultyFrom m (after s p) after_it f → FaultyFrom m s left f
 more_faulty m s p left after_it f took r =
-    let place : after_it.at + length r.front ≡ left.at + length (took.front ++ r.front) = let q = took.place in omega (arith, length-append took.front r.front) in
+    let place : after_it.at + length r.prefix ≡ left.at + length (took.prefix ++ r.prefix) = let q = took.place in omega (arith, length-append took.prefix r.prefix) in
     record {
       parts = p ∷ r.parts;
       whole = r.whole;
-      front = took.front ++ r.front;
+      prefix = took.prefix ++ r.prefix;
       rest = r.rest;
-      bytes_are = took.parts ∙ ap (λ (o : List ℕ). took.front ++ o) r.bytes_are ∙ sym (append_assoc took.front r.front r.rest);
-      lead = (took.front, r.front, refl, took.passes, subst (λ (q : ℕ). Lead m q (after s p) r.parts r.front r.whole) took.place r.lead);
+      bytes_are = took.parts ∙ ap (λ (o : List ℕ). took.prefix ++ o) r.bytes_are ∙ sym (append_assoc took.prefix r.prefix r.rest);
+      lead = (took.prefix, r.prefix, refl, took.passes, subst (λ (q : ℕ). Lead m q (after s p) r.parts r.prefix r.whole) took.place r.lead);
       fails = subst (λ (q : ℕ). FailsNext m q r.whole r.rest f.code f.at) place r.fails;
     }
 
@@ -166,7 +166,7 @@ surplus_at m s left after_it f took e = by_rest (eqb (length after_it.bytes) 0) 
         let g = rw h at e in
         let same : trailing after_it.at ≡ f = err_is (trailing after_it.at) f g in
         at_once m s left f (subst (λ (d : Fault). FailsNext m left.at s left.bytes d.code d.at) same
-        (FailsNext.surplus took.front after_it.bytes took.parts (some_left _ h) took.passes refl took.place))
+        (FailsNext.surplus took.prefix after_it.bytes took.parts (some_left _ h) took.passes refl took.place))
 
 -- what fails behind a part
 abbrev FailsMore : ℕ → ℕ → PartialList → Fault → Type 0
@@ -176,8 +176,8 @@ failed_after : (m n : ℕ) (s : PartialList) (left : Unread) (x : Option Part ×
     → and_then s x (λ p. read_parts m n (after s p)) ≡ Err f → FaultyFrom m s left f
 failed_after m n s left (None, rest) f lt more took e = surplus_at m s left rest f took e
 failed_after m n s left (Some p, rest) f lt more took e =
-    let one = (next_spelling m s).spelled left.at took.front (Some p) took.passes in
-    let k : length rest.bytes < n = omega (arith, longer p, ap (λ (o : List ℕ). length o) one.0, ap (λ (o : List ℕ). length o) took.parts, length-append took.front rest.bytes) in
+    let one = (next_spelling m s).spelled left.at took.prefix (Some p) took.passes in
+    let k : length rest.bytes < n = omega (arith, longer p, ap (λ (o : List ℕ). length o) one.0, ap (λ (o : List ℕ). length o) took.parts, length-append took.prefix rest.bytes) in
     more_faulty m s p left rest f took (more p rest k took.rest_bytes e)
 
 parts_failed : (m n : ℕ) (s : PartialList) (left : Unread) (f : Fault) → length left.bytes < n → AreBytes left.bytes → read_parts m n s left ≡ Err f → FaultyFrom m s left f
@@ -195,11 +195,11 @@ pub all_read : (m : ℕ) (bytes : List ℕ) (t : PartialList) → AreBytes bytes
 unfolding read_list
 all_read m bytes t k e =
     let r = parts_read m (length bytes + 1) start t (record { at = 0; bytes = bytes }) k e in
-    let place : 0 + length r.front ≡ length r.front = omega arith in
+    let place : 0 + length r.prefix ≡ length r.prefix = omega arith in
     record {
       parts = r.parts;
       whole = t;
-      front = r.front;
+      prefix = r.prefix;
       last = r.last;
       bytes_are = r.bytes_are;
       lead = r.lead;
@@ -211,12 +211,12 @@ pub all_with : (m : ℕ) (l : ListModel) (bytes more : List ℕ) (h : SpellsFrom
 unfolding read_list
 all_with m l bytes more h =
     let enough : length h.parts < length (bytes ++ more) + 1 =
-    omega (arith, lead_longer m 0 start h.whole h.parts h.front h.lead, ap (λ (o : List ℕ). length o) h.bytes_are, length-append h.front h.last, length-append bytes more) in
-    let place : length h.front ≡ 0 + length h.front = omega arith in
-    let whole : bytes ++ more ≡ h.front ++ (h.last ++ more) = ap (λ (o : List ℕ). o ++ more) h.bytes_are ∙ append_assoc h.front h.last more in (
-      0 + length h.front + length h.last,
+    omega (arith, lead_longer m 0 start h.whole h.parts h.prefix h.lead, ap (λ (o : List ℕ). length o) h.bytes_are, length-append h.prefix h.last, length-append bytes more) in
+    let place : length h.prefix ≡ 0 + length h.prefix = omega arith in
+    let whole : bytes ++ more ≡ h.prefix ++ (h.last ++ more) = ap (λ (o : List ℕ). o ++ more) h.bytes_are ∙ append_assoc h.prefix h.last more in (
+      0 + length h.prefix + length h.last,
       ap (λ (o : List ℕ). read_parts m (length (bytes ++ more) + 1) start (record { at = 0; bytes = o })) whole
-          ∙ parts_again m (length (bytes ++ more) + 1) 0 start h.whole h.parts h.front h.last more enough h.lead (subst (λ (q : ℕ). Passes (next_part m h.whole) q h.last None) place h.ends),
+          ∙ parts_again m (length (bytes ++ more) + 1) 0 start h.whole h.parts h.prefix h.last more enough h.lead (subst (λ (q : ℕ). Passes (next_part m h.whole) q h.last None) place h.ends),
     )
 
 pub all_again : (m : ℕ) (l : ListModel) (bytes : List ℕ) (h : SpellsFrom m l bytes) → read_list m bytes ≡ Ok h.whole
@@ -240,11 +240,11 @@ pub all_failed : (own : ℕ) (bytes : List ℕ) (f : Fault) → AreBytes bytes �
 unfolding read_list
 all_failed own bytes f k e =
     let r = parts_failed (own + 1) (length bytes + 1) start (record { at = 0; bytes = bytes }) f (omega arith) k e in
-    let place : 0 + length r.front ≡ length r.front = omega arith in
+    let place : 0 + length r.prefix ≡ length r.prefix = omega arith in
     record {
       parts = r.parts;
       whole = r.whole;
-      front = r.front;
+      prefix = r.prefix;
       rest = r.rest;
       bytes_are = r.bytes_are;
       lead = r.lead;
@@ -256,12 +256,12 @@ all_failed own bytes f k e =
 pub follows : (m : ℕ) (s : PartialList) (left after_it : Unread) (p : Part) → AreBytes left.bytes → read (next_part m s) left ≡ Ok (Some p, after_it) → CanFollow 0 s p
 follows m s left after_it p k e =
     let took = read_took (next_part m s) left (Some p, after_it) k e in
-    any_pipeline m s p ((next_spelling m s).spelled left.at took.front (Some p) took.passes).1
+    any_pipeline m s p ((next_spelling m s).spelled left.at took.prefix (Some p) took.passes).1
 
 pub closes : (m : ℕ) (s : PartialList) (left after_it : Unread) → AreBytes left.bytes → read (next_part m s) left ≡ Ok (None, after_it) → s.depth ≡ 0
 closes m s left after_it k e =
     let took = read_took (next_part m s) left (None, after_it) k e in
-    ((next_spelling m s).spelled left.at took.front None took.passes).1
+    ((next_spelling m s).spelled left.at took.prefix None took.passes).1
 
 pub still_bytes : (m : ℕ) (s : PartialList) (left after_it : Unread) (x : Option Part) → AreBytes left.bytes → read (next_part m s) left ≡ Ok (x, after_it) → AreBytes after_it.bytes
 still_bytes m s left after_it x k e = let took = read_took (next_part m s) left (x, after_it) k e in took.rest_bytes
@@ -308,25 +308,25 @@ is_faulty own bytes (Err (errors.Fault f)) k h = fault_first own bytes f k h
 -- ---- a first fault is the one that is read
 
 -- what is read behind parts that lead somewhere
-read_after_lead : (m n at : ℕ) (s t : PartialList) (ps : List Part) (front rest : List ℕ) → Lead m at s ps front t
-    → read_parts m (length ps + n) s (record { at = at; bytes = front ++ rest }) ≡ read_parts m n t (record { at = at + length front; bytes = rest })
+read_after_lead : (m n at : ℕ) (s t : PartialList) (ps : List Part) (prefix rest : List ℕ) → Lead m at s ps prefix t
+    → read_parts m (length ps + n) s (record { at = at; bytes = prefix ++ rest }) ≡ read_parts m n t (record { at = at + length prefix; bytes = rest })
 unfolding read_parts
-read_after_lead m n at s t [] front rest (z, w) =
+read_after_lead m n at s t [] prefix rest (z, w) =
     let nil : List Part = [] in
     let k : length nil + n ≡ n = omega arith in
-    let same : front ++ rest ≡ rest = ap (λ (o : List ℕ). o ++ rest) z in
-    let place : at ≡ at + length front = omega (arith, ap (λ (o : List ℕ). length o) z) in
-    ap (λ (k : ℕ). read_parts m k s (record { at = at; bytes = front ++ rest })) k
+    let same : prefix ++ rest ≡ rest = ap (λ (o : List ℕ). o ++ rest) z in
+    let place : at ≡ at + length prefix = omega (arith, ap (λ (o : List ℕ). length o) z) in
+    ap (λ (k : ℕ). read_parts m k s (record { at = at; bytes = prefix ++ rest })) k
     ∙ ap (λ (o : List ℕ). read_parts m n s (record { at = at; bytes = o })) same
     ∙ ap (λ (q : ℕ). read_parts m n s (record { at = q; bytes = rest })) place
-    ∙ ap (λ (u : PartialList). read_parts m n u (record { at = at + length front; bytes = rest })) (sym w)
-read_after_lead m n at s t (p ∷ ps) front rest (piece, back, e, passes, lead) =
+    ∙ ap (λ (u : PartialList). read_parts m n u (record { at = at + length prefix; bytes = rest })) (sym w)
+read_after_lead m n at s t (p ∷ ps) prefix rest (piece, back, e, passes, lead) =
     let k : length (p ∷ ps) + n ≡ suc (length ps + n) = omega arith in
-    let bytes_are : front ++ rest ≡ piece ++ (back ++ rest) = ap (λ (o : List ℕ). o ++ rest) e ∙ append_assoc piece back rest in
-    let place : at + length piece + length back ≡ at + length front = omega (arith, ap (λ (o : List ℕ). length o) e, length-append piece back) in
-    let one : read_parts m (suc (length ps + n)) s (record { at = at; bytes = front ++ rest }) ≡ read_parts m (length ps + n) (after s p) (record { at = at + length piece; bytes = back ++ rest }) =
+    let bytes_are : prefix ++ rest ≡ piece ++ (back ++ rest) = ap (λ (o : List ℕ). o ++ rest) e ∙ append_assoc piece back rest in
+    let place : at + length piece + length back ≡ at + length prefix = omega (arith, ap (λ (o : List ℕ). length o) e, length-append piece back) in
+    let one : read_parts m (suc (length ps + n)) s (record { at = at; bytes = prefix ++ rest }) ≡ read_parts m (length ps + n) (after s p) (record { at = at + length piece; bytes = back ++ rest }) =
     rw (bytes_are, read_again (next_part m s) at piece (back ++ rest) (Some p) passes) refl in
-    ap (λ (k : ℕ). read_parts m k s (record { at = at; bytes = front ++ rest })) k
+    ap (λ (k : ℕ). read_parts m k s (record { at = at; bytes = prefix ++ rest })) k
     ∙ one
     ∙ read_after_lead m n (at + length piece) (after s p) t ps back rest lead
     ∙ ap (λ (q : ℕ). read_parts m n t (record { at = q; bytes = rest })) place
@@ -342,13 +342,13 @@ first_fault_read : (own : ℕ) (bytes : List ℕ) (c : Code) (p : ℕ) → IsFir
 unfolding read_list
 first_fault_read own bytes c p h =
     let few : length h.parts ≤ length bytes =
-    omega (arith, lead_longer (own + 1) 0 start h.whole h.parts h.front h.lead, ap (λ (o : List ℕ). length o) h.bytes_are, length-append h.front h.rest) in
+    omega (arith, lead_longer (own + 1) 0 start h.whole h.parts h.prefix h.lead, ap (λ (o : List ℕ). length o) h.bytes_are, length-append h.prefix h.rest) in
     let count : length bytes + 1 ≡ length h.parts + suc (length bytes - length h.parts) = omega arith in
-    let place : length h.front ≡ 0 + length h.front = omega arith in
+    let place : length h.prefix ≡ 0 + length h.prefix = omega arith in
     ap (λ (k : ℕ). read_parts (own + 1) k start (record { at = 0; bytes = bytes })) count
     ∙ ap (λ (o : List ℕ). read_parts (own + 1) (length h.parts + suc (length bytes - length h.parts)) start (record { at = 0; bytes = o })) h.bytes_are
-    ∙ read_after_lead (own + 1) (suc (length bytes - length h.parts)) 0 start h.whole h.parts h.front h.rest h.lead
-    ∙ fails_again (own + 1) (length bytes - length h.parts) (0 + length h.front) h.whole h.rest c p (subst (λ (q : ℕ). FailsNext (own + 1) q h.whole h.rest c p) place h.fails)
+    ∙ read_after_lead (own + 1) (suc (length bytes - length h.parts)) 0 start h.whole h.parts h.prefix h.rest h.lead
+    ∙ fails_again (own + 1) (length bytes - length h.parts) (0 + length h.prefix) h.whole h.rest c p (subst (λ (q : ℕ). FailsNext (own + 1) q h.whole h.rest c p) place h.fails)
 
 -- bytes have one first fault at most
 pub one_fault : (own : ℕ) (bytes : List ℕ) (c d : Code) (p q : ℕ) → IsFirstFault own bytes c p → IsFirstFault own bytes d q → (c ≡ d) × (p ≡ q)
@@ -368,7 +368,7 @@ first_read own bytes c p h = rw (first_fault_read own bytes c p h) refl
 -- a first fault stands in the bytes, or just after them
 pub fault_within : (own : ℕ) (bytes : List ℕ) (c : Code) (p : ℕ) → IsFirstFault own bytes c p → p ≤ length bytes
 fault_within own bytes c p h =
-    omega (arith, fails_within (own + 1) (length h.front) h.whole h.rest c p h.fails, ap (λ (o : List ℕ). length o) h.bytes_are, length-append h.front h.rest)
+    omega (arith, fails_within (own + 1) (length h.prefix) h.whole h.rest c p h.fails, ap (λ (o : List ℕ). length o) h.bytes_are, length-append h.prefix h.rest)
 
 pub is_within : (own : ℕ) (bytes : List ℕ) (r : Result ListModel DecodeError) → AreBytes bytes → Gives r (list_at own bytes) → IfErr r (IsWithin (length bytes))
 is_within own bytes (Ok l) k h = tt

@@ -1,6 +1,6 @@
 -- What holds of the trees that a list's tokens tell.
-use Rattle.std.proofs.Common.{◌≡◌, ℕ, suc, ◌+◌, ◌-◌, ◌<◌, ◌≤◌, max, List, [], ◌∷◌, ◌++◌, length, refl, sym, ap, subst, ◌∙◌, append_assoc, arith}
-use Rattle.std.specs.Prelude.{All, ◌↔◌}
+use Rattle.std.proofs.Common.{◌≡◌, ℕ, ◌+◌, ◌-◌, ◌<◌, ◌≤◌, List, [], ◌∷◌, ◌++◌, length, refl, sym, ap, subst, ◌∙◌, append_assoc, arith}
+use Rattle.std.specs.Prelude.{All}
 use Rattle.std.proofs.lemmas.List.{append-nil}
 use Rattle.std.proofs.lemmas.List.Elements.{All-head, All-tail}
 use Rattle.display_list.specs.declared.token.Token.{Token}
@@ -8,7 +8,7 @@ use Rattle.display_list.specs.declared.token.Token.TheVariants as token
 use Rattle.display_list.specs.declared.token.Push.{Push}
 use Rattle.display_list.specs.ListModel.{ListModel}
 use Rattle.display_list.proofs.Trees.{all_split}
-use Rattle.display_list.specs.Levels.{depth_after, MayNest, Nests}
+use Rattle.display_list.specs.Levels.{Nests}
 use Rattle.display_list.specs.Facts.{IsToken, IsList}
 use Rattle.display_list.specs.Grammar.{AllNameAbove, Fits}
 use Rattle.display_list.specs.Trees.{Tree, solid, image, border, text, context, iframe, hit_area, Trees, none, more, joint, and_tree, told_after, told, tree_tokens, trees_tokens, tree_nesting, nesting_of, IsTree, AreTrees, TreeNamesAbove, TreesNameAbove}

@@ -1,5 +1,5 @@
 -- Counts that fit the fields that hold them.
-use Rattle.std.specs.Prelude.{ℕ, ◌<◌, ◌^◌, length}
+use Rattle.std.specs.Prelude.{◌<◌, ◌^◌, length}
 use Rattle.display_list.specs.declared.node.ChainDef.{ChainDef}
 use Rattle.display_list.specs.declared.token.Token.{Token}
 use Rattle.display_list.specs.declared.token.Token.TheVariants.{Text}

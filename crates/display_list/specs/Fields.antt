@@ -6,7 +6,7 @@ use Rattle.wr_geom.specs.Bounds.{Bounds}
 use Rattle.wr_geom.specs.Sides.{radii_fit, widths_fit}
 use Rattle.wr_geom.specs.declared.sides.Radii.{Radii}
 use Rattle.wr_geom.specs.declared.sides.Widths.{Widths}
-use Rattle.field_forms.specs.Form.{Form, done, here, refuse, choose, bind, ◌>>=◌}
+use Rattle.field_forms.specs.Form.{Form, done, ◌>>=◌}
 use Rattle.field_forms.specs.Numbers.{number}
 use Rattle.field_forms.specs.Fields.{refuse_if, refuse_unless, reference, optional_reference, coordinate, rectangle}
 use Rattle.display_list.specs.declared.item.Spot.{Spot}

@@ -22,11 +22,11 @@ Lead min_pipeline at s (p ∷ ps) bytes t =
 pub record SpellsFrom (min_pipeline : ℕ) (l : ListModel) (bytes : List ℕ) : Type 0 where
   pub parts : List Part
   pub whole : PartialList
-  pub front : List ℕ
+  pub prefix : List ℕ
   pub last : List ℕ
-  pub bytes_are : bytes ≡ front ++ last
-  pub lead : Lead min_pipeline 0 start parts front whole
-  pub ends : Passes (next_part min_pipeline whole) (length front) last None
+  pub bytes_are : bytes ≡ prefix ++ last
+  pub lead : Lead min_pipeline 0 start parts prefix whole
+  pub ends : Passes (next_part min_pipeline whole) (length prefix) last None
   pub list_is : list_of whole ≡ l
 
 -- The bytes spell the list, of whichever pipeline it is.
@@ -60,11 +60,11 @@ pub data FailsNext (min_pipeline at : ℕ) (s : PartialList) (bytes : List ℕ) 
 pub record IsFirstFault (own : ℕ) (bytes : List ℕ) (c : Code) (position : ℕ) : Type 0 where
   pub parts : List Part
   pub whole : PartialList
-  pub front : List ℕ
+  pub prefix : List ℕ
   pub rest : List ℕ
-  pub bytes_are : bytes ≡ front ++ rest
-  pub lead : Lead (own + 1) 0 start parts front whole
-  pub fails : FailsNext (own + 1) (length front) whole rest c position
+  pub bytes_are : bytes ≡ prefix ++ rest
+  pub lead : Lead (own + 1) 0 start parts prefix whole
+  pub fails : FailsNext (own + 1) (length prefix) whole rest c position
 
 -- Each fault that is answered is the first one.
 abbrev pub FaultIsFirst : {X : Type 0} → Result X DecodeError → ℕ → List ℕ → Type 0

@@ -1,5 +1,5 @@
 -- A list as far as it was read.
-use Rattle.std.specs.Prelude.{ℕ, ◌+◌, Bool, true, false, List, [], ◌∷◌, ◌++◌, length}
+use Rattle.std.specs.Prelude.{ℕ, Bool, true, false, List, [], ◌∷◌, ◌++◌}
 use Rattle.display_list.specs.declared.node.Node.{Node}
 use Rattle.display_list.specs.declared.node.ClipDef.{ClipDef}
 use Rattle.display_list.specs.declared.node.ChainDef.{ChainDef}

@@ -222,6 +222,7 @@ impl Builder {
         Ok(())
     }
 
+    #[inline(always)]
     fn add_item(&mut self, item: Item) -> Result<(), AllocError>
         ensures items { OnOk result (self.new ≡ record self.old { section = Section.Items; items = self.old.items ++ item_tokens item }) }
     {
@@ -231,6 +232,7 @@ impl Builder {
         Ok(())
     }
 
+    #[inline(always)]
     fn add_token(&mut self, alloc: Global, token: Token) -> Result<(), AllocError>
         requires { ItemFollows 0 self.old token }
         ensures { OnOk result (self.new ≡ after self.old (Part.Item token)) }
@@ -274,6 +276,7 @@ impl Builder {
     }
 
     /// Takes the next part.
+    #[inline(always)]
     pub fn add(&mut self, alloc: Global, part: Part) -> Result<(), AllocError>
         requires { CanFollow 0 self.old part }
         ensures { OnOk result (self.new ≡ after self.old part) }
@@ -308,6 +311,7 @@ impl Builder {
 }
 
 /// Room for one item where there is none yet: most contexts have few items.
+#[inline(always)]
 fn make_room(items: &mut Vec<Item>) -> Result<(), AllocError>
     ensures { items.new.items ≡ items.old.items }
 {

@@ -19,6 +19,7 @@ use field_forms::{Reader, fault};
 use std::alloc::Global;
 use wr_io::{Code, DecodeError};
 
+#[inline(always)]
 #[tactic(auto, unfolding(crate::specs::Parts::solid))]
 fn read_solid(reader: &mut Reader<'_>, nodes: usize, chains: usize) -> Result<Token, DecodeError>
     ensures { Reads result reader.new (read (solid nodes chains) reader.old) }
@@ -28,6 +29,7 @@ fn read_solid(reader: &mut Reader<'_>, nodes: usize, chains: usize) -> Result<To
     Ok(Token::Solid { spot, colour })
 }
 
+#[inline(always)]
 #[tactic(auto, unfolding(crate::specs::Parts::image))]
 fn read_image(reader: &mut Reader<'_>, nodes: usize, chains: usize) -> Result<Token, DecodeError>
     ensures { Reads result reader.new (read (image nodes chains) reader.old) }
@@ -193,6 +195,7 @@ fn read_hit_area(reader: &mut Reader<'_>, nodes: usize, chains: usize) -> Result
 }
 
 /// An item that draws by itself, by its tag, up to 9.
+#[inline(always)]
 #[tactic(auto, unfolding(crate::specs::Parts::primitive))]
 fn read_primitive(
     reader: &mut Reader<'_>,
@@ -212,6 +215,7 @@ fn read_primitive(
 }
 
 /// An item by its tag, from 6 on.
+#[inline(always)]
 #[tactic(auto, unfolding(crate::specs::Parts::item))]
 pub(crate) fn read_item(
     reader: &mut Reader<'_>,

@@ -26,6 +26,7 @@ fn read_end(reader: &mut Reader<'_>, depth: usize, at: u32) -> Result<Option<Par
 
 /// The next part, after those that were built; none at the End. An Iframe names no pipeline below
 /// `min_pipeline`.
+#[inline(always)]
 #[tactic(auto, unfolding(crate::specs::Parts::next_part))]
 pub(crate) fn read_next_part(
     reader: &mut Reader<'_>,

@@ -176,7 +176,7 @@ const WRONG: [(usize, &[u8], u8, u32); 132] = [
     (317, &[255, 255, 255, 255], 3, 317),
 ];
 
-/// The code and place of the first fault.
+/// The code and position of the first fault.
 fn fault_of(alloc: Global, bytes: &[u8], own: u8) -> Option<(u8, u32)> {
     if own > 63 || bytes.len() > 6_300_000 {
         return None;

@@ -12,10 +12,10 @@ byte_at_index [] h i = omega arith
 byte_at_index (b ∷ bytes) h zero = h.0
 byte_at_index (b ∷ bytes) h (suc i) = byte_at_index bytes h.1 i
 
-pub AreBytes-front : (xs ys : List ℕ) → AreBytes (xs ++ ys) → AreBytes xs
-AreBytes-front [] ys h = tt
-AreBytes-front (x ∷ xs) ys h = (h.0, AreBytes-front xs ys h.1)
+pub AreBytes-prefix : (xs ys : List ℕ) → AreBytes (xs ++ ys) → AreBytes xs
+AreBytes-prefix [] ys h = tt
+AreBytes-prefix (x ∷ xs) ys h = (h.0, AreBytes-prefix xs ys h.1)
 
-pub AreBytes-back : (xs ys : List ℕ) → AreBytes (xs ++ ys) → AreBytes ys
-AreBytes-back [] ys h = h
-AreBytes-back (x ∷ xs) ys h = AreBytes-back xs ys h.1
+pub AreBytes-rest : (xs ys : List ℕ) → AreBytes (xs ++ ys) → AreBytes ys
+AreBytes-rest [] ys h = h
+AreBytes-rest (x ∷ xs) ys h = AreBytes-rest xs ys h.1

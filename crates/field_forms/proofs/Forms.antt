@@ -9,7 +9,7 @@ use Rattle.wr_io.specs.declared.fault.Code.{Code}
 use Rattle.wr_io.specs.declared.fault.Code.TheVariants as code
 use Rattle.wr_io.specs.declared.fault.Fault.{Fault}
 use Rattle.field_forms.specs.Form.{Form, done, here, piece, refuse, choose, bind, AreBytes, next, fault, read, Passes, Refuses}
-use Rattle.field_forms.proofs.Bytes.{AreBytes-front, AreBytes-back}
+use Rattle.field_forms.proofs.Bytes.{AreBytes-prefix, AreBytes-rest}
 
 pub next_ok : {A B : Type 0} (r : Result A Fault) (f : A → Result B Fault) (y : B) → next r f ≡ Ok y → (x : A) × (r ≡ Ok x) × (f x ≡ Ok y)
 next_ok (Ok x) f y e = (x, refl, e)
@@ -21,12 +21,12 @@ ok x = Ok x
 ok_is : {A : Type 0} (x y : A) → ok x ≡ ok y → x ≡ y
 ok_is x y e = cc
 
--- the bytes that were taken from the front
+-- the bytes that were taken from the prefix
 pub record Took {A : Type 0} (f : Form A) (left : Unread) (x : A × Unread) : Type 0 where
-  pub front : List ℕ
-  pub parts : left.bytes ≡ front ++ x.1.bytes
-  pub place : x.1.at ≡ left.at + length front
-  pub passes : Passes f left.at front x.0
+  pub prefix : List ℕ
+  pub parts : left.bytes ≡ prefix ++ x.1.bytes
+  pub place : x.1.at ≡ left.at + length prefix
+  pub passes : Passes f left.at prefix x.0
   pub rest_bytes : AreBytes x.1.bytes
 
 -- a choice that was made
@@ -43,18 +43,18 @@ piece_took n at bytes h k =
     let long : length (take n bytes) ≡ n = length-take-le n bytes h in
     let both : AreBytes (take n bytes ++ drop n bytes) = subst AreBytes (sym (take-append-drop n bytes)) k in
     record {
-      front = take n bytes;
+      prefix = take n bytes;
       parts = sym (take-append-drop n bytes);
       place = ap (λ m. at + m) (sym long);
-      passes = (long, AreBytes-front (take n bytes) (drop n bytes) both, refl);
-      rest_bytes = AreBytes-back (take n bytes) (drop n bytes) both;
+      passes = (long, AreBytes-prefix (take n bytes) (drop n bytes) both, refl);
+      rest_bytes = AreBytes-rest (take n bytes) (drop n bytes) both;
     }
 
 pub read_took : {A : Type 0} (f : Form A) (left : Unread) (x : A × Unread) → AreBytes left.bytes → read f left ≡ Ok x → Took f left x
 read_took (done y) left x k e =
-    subst (Took (done y) left) (ok_is (y, left) x e) (record { front = []; parts = refl; place = omega arith; passes = (refl, refl); rest_bytes = k })
+    subst (Took (done y) left) (ok_is (y, left) x e) (record { prefix = []; parts = refl; place = omega arith; passes = (refl, refl); rest_bytes = k })
 read_took here left x k e =
-    subst (Took here left) (ok_is (left.at, left) x e) (record { front = []; parts = refl; place = omega arith; passes = (refl, refl); rest_bytes = k })
+    subst (Took here left) (ok_is (left.at, left) x e) (record { prefix = []; parts = refl; place = omega arith; passes = (refl, refl); rest_bytes = k })
 read_took (piece n) left x k e =
     elim (chosen (ltb (length left.bytes) n) _ _ _ e) [
       | inl p ↦ absurd cc
@@ -62,36 +62,36 @@ read_took (piece n) left x k e =
     ]
 read_took (refuse c p) left x k e = absurd cc
 read_took (choose true f g) left x k e =
-    let t = read_took f left x k e in record { front = t.front; parts = t.parts; place = t.place; passes = t.passes; rest_bytes = t.rest_bytes }
+    let t = read_took f left x k e in record { prefix = t.prefix; parts = t.parts; place = t.place; passes = t.passes; rest_bytes = t.rest_bytes }
 read_took (choose false f g) left x k e =
-    let t = read_took g left x k e in record { front = t.front; parts = t.parts; place = t.place; passes = t.passes; rest_bytes = t.rest_bytes }
+    let t = read_took g left x k e in record { prefix = t.prefix; parts = t.parts; place = t.place; passes = t.passes; rest_bytes = t.rest_bytes }
 read_took (bind f g) left x k e =
     let a = next_ok (read f left) (λ y. read (g y.0) y.1) x e in
     let t = read_took f left a.0 k a.1 in
     let u = read_took (g a.0.0) a.0.1 x t.rest_bytes a.2 in
     record {
-      front = t.front ++ u.front;
-      parts = t.parts ∙ ap (λ (b : List ℕ). t.front ++ b) u.parts ∙ sym (append_assoc t.front u.front x.1.bytes);
-      place = u.place ∙ let p = t.place in omega (arith, length-append t.front u.front);
-      passes = (a.0.0, t.front, u.front, refl, t.passes, subst (λ (p : ℕ). Passes (g a.0.0) p u.front x.0) t.place u.passes);
+      prefix = t.prefix ++ u.prefix;
+      parts = t.parts ∙ ap (λ (b : List ℕ). t.prefix ++ b) u.parts ∙ sym (append_assoc t.prefix u.prefix x.1.bytes);
+      place = u.place ∙ let p = t.place in omega (arith, length-append t.prefix u.prefix);
+      passes = (a.0.0, t.prefix, u.prefix, refl, t.passes, subst (λ (p : ℕ). Passes (g a.0.0) p u.prefix x.0) t.place u.passes);
       rest_bytes = u.rest_bytes;
     }
 
 -- what passes is read, whatever follows it
-pub read_again : {A : Type 0} (f : Form A) (at : ℕ) (front rest : List ℕ) (x : A) → Passes f at front x
-    → read f (record { at = at; bytes = front ++ rest }) ≡ Ok (x, record { at = at + length front; bytes = rest })
-read_again (done y) at front rest x p = let z : at ≡ at + 0 = omega arith in rw (p.0, p.1, ← z) refl
-read_again here at front rest x p = let z : at ≡ at + 0 = omega arith in rw (p.0, p.1, ← z) refl
-read_again (piece n) at front rest x p =
-    let long : ltb (length (front ++ rest)) n ≡ false = le-ltb _ _ (omega (arith, p.0, length-append front rest)) in
+pub read_again : {A : Type 0} (f : Form A) (at : ℕ) (prefix rest : List ℕ) (x : A) → Passes f at prefix x
+    → read f (record { at = at; bytes = prefix ++ rest }) ≡ Ok (x, record { at = at + length prefix; bytes = rest })
+read_again (done y) at prefix rest x p = let z : at ≡ at + 0 = omega arith in rw (p.0, p.1, ← z) refl
+read_again here at prefix rest x p = let z : at ≡ at + 0 = omega arith in rw (p.0, p.1, ← z) refl
+read_again (piece n) at prefix rest x p =
+    let long : ltb (length (prefix ++ rest)) n ≡ false = le-ltb _ _ (omega (arith, p.0, length-append prefix rest)) in
     let z = p.0 in
-    rw (long, p.2, ← z, take-append_seam front rest, drop-append_seam front rest) refl
-read_again (refuse c q) at front rest x p = absurd p
-read_again (choose true f g) at front rest x p = read_again f at front rest x p
-read_again (choose false f g) at front rest x p = read_again g at front rest x p
-read_again (bind f g) at front rest x (y, one, two, parts, p, q) =
-    let e : front ++ rest ≡ one ++ (two ++ rest) = ap (λ (b : List ℕ). b ++ rest) parts ∙ append_assoc one two rest in
-    let l : at + length front ≡ at + length one + length two = omega (arith, ap (λ (b : List ℕ). length b) parts, length-append one two) in
+    rw (long, p.2, ← z, take-append_seam prefix rest, drop-append_seam prefix rest) refl
+read_again (refuse c q) at prefix rest x p = absurd p
+read_again (choose true f g) at prefix rest x p = read_again f at prefix rest x p
+read_again (choose false f g) at prefix rest x p = read_again g at prefix rest x p
+read_again (bind f g) at prefix rest x (y, one, two, parts, p, q) =
+    let e : prefix ++ rest ≡ one ++ (two ++ rest) = ap (λ (b : List ℕ). b ++ rest) parts ∙ append_assoc one two rest in
+    let l : at + length prefix ≡ at + length one + length two = omega (arith, ap (λ (b : List ℕ). length b) parts, length-append one two) in
     rw (e, l, read_again f at one (two ++ rest) y p) (read_again (g y) (at + length one) two rest x q)
 
 pub err_is : {A : Type 0} (f g : Fault) → (let e : Result A Fault = Err f in e) ≡ Err g → f ≡ g
@@ -124,7 +124,7 @@ read_refused (bind g h) left f k e =
       | inl p ↦ inl (read_refused g left f k p)
       | inr p ↦
           let t = read_took g left p.0 k p.1 in
-          inr (p.0.0, t.front, p.0.1.bytes, t.parts, t.passes, subst (λ (q : ℕ). RefusesAs (h p.0.0) q p.0.1.bytes f) t.place (read_refused (h p.0.0) p.0.1 f t.rest_bytes p.2))
+          inr (p.0.0, t.prefix, p.0.1.bytes, t.parts, t.passes, subst (λ (q : ℕ). RefusesAs (h p.0.0) q p.0.1.bytes f) t.place (read_refused (h p.0.0) p.0.1 f t.rest_bytes p.2))
     ]
 
 -- what is refused isn't read
@@ -136,4 +136,4 @@ refused_again (refuse d q) at bytes c p (e, w) = rw (e, w) refl
 refused_again (choose true f g) at bytes c p h = refused_again f at bytes c p h
 refused_again (choose false f g) at bytes c p h = refused_again g at bytes c p h
 refused_again (bind f g) at bytes c p (inl h) = rw (refused_again f at bytes c p h) refl
-refused_again (bind f g) at bytes c p (inr (y, front, rest, e, passes, h)) = rw (e, read_again f at front rest y passes) (refused_again (g y) (at + length front) rest c p h)
+refused_again (bind f g) at bytes c p (inr (y, prefix, rest, e, passes, h)) = rw (e, read_again f at prefix rest y passes) (refused_again (g y) (at + length prefix) rest c p h)

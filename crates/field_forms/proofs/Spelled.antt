@@ -1,23 +1,21 @@
 -- The spelling of each field that several formats share.
-use Rattle.std.proofs.Common.{◌≡◌, ℕ, ℤ, pos, negsuc, zero, suc, ◌+◌, ◌<◌, ◌≤◌, ◌^◌, Bool, true, false, ◌||◌, cond, eqb, ltb, List, [], ◌∷◌, ◌++◌, length, get_or, Option, Some, None, refl, sym, ap, subst, ◌∙◌, arith, inl, inr}
+use Rattle.std.proofs.Common.{◌≡◌, ℕ, ℤ, pos, negsuc, zero, suc, ◌<◌, ◌≤◌, ◌^◌, Bool, true, false, ◌||◌, cond, eqb, ltb, List, [], ◌∷◌, length, get_or, Option, Some, None, refl, sym, ap, subst, ◌∙◌, arith}
 use Rattle.std.specs.Prelude.{int_lt, ◌≤ℤ◌}
-use Rattle.std.specs.Int.{w16, w32, from_le_bytes, to_le_bytes, cast_unsigned, cast_signed}
-use Rattle.std.proofs.lemmas.Bool.{eqb-true, ltb-true, ltb-false, lt-ltb, le-ltb}
+use Rattle.std.specs.Int.{w16, w32, from_le_bytes, to_le_bytes, cast_unsigned}
+use Rattle.std.proofs.lemmas.Bool.{eqb-true, ltb-true, ltb-false, lt-ltb}
 use Rattle.std.proofs.lemmas.Bool.Decides.{nat_tests}
 use Rattle.std.proofs.lemmas.Int.{of_z-to_z, to_z-of_z, ints}
 use mir.Val.{SFits}
 use borrow.Author.Gap.{read_sfits}
 use Rattle.std.proofs.Math.Facts.{Fits-of_z}
 use Rattle.std.proofs.lemmas.Nat.{le_bytes_2, le_bytes_4, from_le_bytes-to_le_bytes_2, from_le_bytes-to_le_bytes_4}
-use Rattle.blend_rules.specs.declared.colour.Px.{Px}
 use Rattle.blend_rules.specs.Colour.{is_premultiplied, colour_bytes, colour_from}
 use Rattle.blend_rules.proofs.Premultiplied.{premultiplied-true, premultiplied-of}
 use Rattle.wr_geom.specs.Bounds.{Bounds}
 use Rattle.wr_io.specs.declared.fault.Code.TheVariants as code
-use Rattle.field_forms.specs.Form.{AreBytes}
 use Rattle.field_forms.specs.Numbers.{byte, number, signed, any_colour}
 use Rattle.field_forms.specs.Fields.{flag, reference, optional_reference, optional_of, optional_number, is_far, coordinate, coordinate_from, rectangle, colour}
-use Rattle.field_forms.specs.Facts.{IsNear, IsRectangle, IsDefined, IsColour, AreChannels, IsReference, IsOptionalReference, FitsOptional}
+use Rattle.field_forms.specs.Facts.{IsNear, IsRectangle, IsColour, AreChannels, IsReference, IsOptionalReference, FitsOptional}
 use Rattle.field_forms.specs.Spelling.{u16_bytes, u32_bytes, i32_bytes, optional_bytes, flag_bytes, rectangle_bytes}
 use Rattle.field_forms.proofs.Bytes.{byte_at_index}
 use Rattle.field_forms.proofs.Passing.{HasSpelling, with_fact, refuse_if_spelling, refuse_unless_spelling, made_spelling, joined, alone, at_end}

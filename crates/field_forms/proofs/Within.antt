@@ -1,10 +1,9 @@
 -- A refusal stands within the bytes.
-use Rattle.std.proofs.Common.{◌≡◌, ℕ, zero, suc, ◌+◌, ◌<◌, ◌≤◌, Bool, true, false, List, [], ◌∷◌, ◌++◌, length, refl, sym, ap, subst, ◌∙◌, arith, inl, inr, ◌⊎◌}
+use Rattle.std.proofs.Common.{ℕ, zero, suc, ◌+◌, ◌≤◌, Bool, true, false, List, [], ◌∷◌, length, ap, arith, inl, inr}
 use Rattle.std.proofs.lemmas.List.{length-append}
-use Rattle.std.specs.Prelude.{MatchBool}
 use Rattle.std.specs.Int.{Width, byte_len}
 use Rattle.wr_io.specs.declared.fault.Code.{Code}
-use Rattle.field_forms.specs.Form.{Form, done, here, piece, refuse, choose, bind, Passes, Refuses}
+use Rattle.field_forms.specs.Form.{Form, done, here, piece, refuse, choose, bind, Refuses}
 use Rattle.field_forms.specs.Numbers.{byte, number, signed, any_colour}
 use Rattle.field_forms.specs.Fields.{refuse_if, refuse_unless, times, flag, reference, optional_reference, optional_number, coordinate, coordinate_from, rectangle, colour}
 
@@ -23,11 +22,13 @@ pub refuse_within : {A : Type 0} {from : ℕ} (c : Code) → StaysWithin {A = A}
 refuse_within c = record { within = λ at bytes d p le (e, w). omega (arith, w) }
 
 pub bind_within : {A B : Type 0} {from : ℕ} {f : Form A} {g : A → Form B} → StaysWithin from f → ((x : A) → StaysWithin from (g x)) → StaysWithin from (bind f g)
-bind_within {f = f} {g = g} h k = record { within = λ at bytes c p le r. elim r [
-  | inl q ↦ h.within at bytes c p le q
-  | inr (y, front, rest, e, passes, q) ↦
-      omega (arith, (k y).within (at + length front) rest c p (omega arith) q, ap (λ (o : List ℕ). length o) e, length-append front rest)
-] }
+bind_within {f = f} {g = g} h k = record {
+  within = λ at bytes c p le r. elim r [
+    | inl q ↦ h.within at bytes c p le q
+    | inr (y, prefix, rest, e, passes, q) ↦
+        omega (arith, (k y).within (at + length prefix) rest c p (omega arith) q, ap (λ (o : List ℕ). length o) e, length-append prefix rest)
+  ];
+}
 
 pub choose_within : {A : Type 0} {from : ℕ} {f g : Form A} (b : Bool) → StaysWithin from f → StaysWithin from g → StaysWithin from (choose b f g)
 choose_within true h k = record { within = λ at bytes c p le r. h.within at bytes c p le r }
@@ -35,11 +36,13 @@ choose_within false h k = record { within = λ at bytes c p le r. k.within at by
 
 -- a form that notes its own position
 pub here_within : {B : Type 0} {from : ℕ} {g : ℕ → Form B} → ((at : ℕ) → from ≤ at → StaysWithin at (g at)) → StaysWithin from (bind here g)
-here_within {g = g} k = record { within = λ at bytes c p le r. elim r [
-  | inl q ↦ absurd q
-  | inr (a, none, rest, e, (z, w), q) ↦
-      omega (arith, (k a (omega (arith, w))).within (at + length none) rest c p (omega (arith, w)) q, ap (λ (o : List ℕ). length o) e, length-append none rest)
-] }
+here_within {g = g} k = record {
+  within = λ at bytes c p le r. elim r [
+    | inl q ↦ absurd q
+    | inr (a, none, rest, e, (z, w), q) ↦
+        omega (arith, (k a (omega (arith, w))).within (at + length none) rest c p (omega (arith, w)) q, ap (λ (o : List ℕ). length o) e, length-append none rest)
+  ];
+}
 
 -- what holds from a position on holds from a later one on
 later : {A : Type 0} {from after : ℕ} {f : Form A} → from ≤ after → StaysWithin from f → StaysWithin after f

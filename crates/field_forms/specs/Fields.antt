@@ -1,5 +1,5 @@
 -- The fields that several formats share, each with its checks.
-use Rattle.std.specs.Prelude.{ℕ, zero, suc, ℤ, pos, negsuc, ◌<◌, Bool, not, ◌||◌, List, [], ◌∷◌, Option, Some, None, nat_lt, ◌==◌, int_lt, if◌then◌else◌}
+use Rattle.std.specs.Prelude.{ℕ, zero, suc, ℤ, pos, negsuc, Bool, ◌||◌, List, [], ◌∷◌, Option, Some, None, nat_lt, ◌==◌, int_lt, if◌then◌else◌}
 use Rattle.std.specs.Int.{w16}
 use Rattle.wr_io.specs.declared.fault.Code.{Code}
 use Rattle.wr_io.specs.declared.fault.Code.TheVariants as code

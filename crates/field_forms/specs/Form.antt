@@ -53,7 +53,7 @@ Passes (piece n) at bytes x = (length bytes ≡ n) × AreBytes bytes × (x ≡ b
 Passes (refuse c p) at bytes x = ⊥
 Passes (choose b f g) at bytes x = MatchBool b (Passes f at bytes x) (Passes g at bytes x)
 Passes (bind {A} f g) at bytes x =
-    (y : A) × (front : List ℕ) × (back : List ℕ) × (bytes ≡ front ++ back) × Passes f at front y × Passes (g y) (at + length front) back x
+    (y : A) × (prefix : List ℕ) × (back : List ℕ) × (bytes ≡ prefix ++ back) × Passes f at prefix y × Passes (g y) (at + length prefix) back x
 
 -- From a position, the bytes begin with fields that pass their checks, and the next field is refused with a code at a position:
 -- it is not whole, or a check of it fails.
@@ -65,7 +65,7 @@ Refuses (refuse d q) at bytes c p = (c ≡ d) × (p ≡ q)
 Refuses (choose b f g) at bytes c p = MatchBool b (Refuses f at bytes c p) (Refuses g at bytes c p)
 Refuses (bind {A} f g) at bytes c p =
     Refuses f at bytes c p
-    ⊎ ((y : A) × (front : List ℕ) × (rest : List ℕ) × (bytes ≡ front ++ rest) × Passes f at front y × Refuses (g y) (at + length front) rest c p)
+    ⊎ ((y : A) × (prefix : List ℕ) × (rest : List ℕ) × (bytes ≡ prefix ++ rest) × Passes f at prefix y × Refuses (g y) (at + length prefix) rest c p)
 
 -- no byte is left
 abbrev pub nothing_left : Unread → Result (Unit {0}) Fault

@@ -1,5 +1,5 @@
 -- Numbers and colours as fields.
-use Rattle.std.specs.Prelude.{ℕ, ℤ, List, slice_index}
+use Rattle.std.specs.Prelude.{ℕ, ℤ, slice_index}
 use Rattle.std.specs.Int.{Width, w32, byte_len, from_le_bytes, cast_signed}
 use Rattle.blend_rules.specs.declared.colour.Px.{Px}
 use Rattle.blend_rules.specs.Colour.{colour_from}

@@ -1,5 +1,5 @@
 -- What a function returned, against what reading gives.
-use Rattle.std.specs.Prelude.{◌≡◌, ◌+◌, ◌≤◌, ℕ, length, Result, Ok, Err}
+use Rattle.std.specs.Prelude.{◌≡◌, ◌+◌, ◌≤◌, ℕ, Result, Ok, Err}
 use Rattle.wr_io.specs.Unread.{Unread}
 use Rattle.wr_io.specs.declared.fault.Fault.{Fault}
 use Rattle.wr_io.specs.declared.fault.DecodeError.{DecodeError}
@@ -15,7 +15,7 @@ abbrev pub Gives : {Y : Type 0} → Result Y DecodeError → Result Y Fault → 
 Gives (Ok x) read = read ≡ Ok x
 Gives (Err e) read = Fails e read
 
--- The same of a reader, which then stands behind what it read.
+-- The same of a reader, which then stands after what it read.
 abbrev pub Reads : {X : Type 0} → Result X DecodeError → Unread → Result (X × Unread) Fault → Type 0
 Reads (Ok x) new read = read ≡ Ok (x, new)
 Reads (Err e) new read = Fails e read

@@ -1,9 +1,6 @@
-pub mod Taken
 pub mod Reading
 pub mod Members
 pub mod Blocks
 pub mod Frames
-pub mod Fronts
-pub mod Steps
-pub mod Opening
-pub mod Words
+pub mod Statuses
+pub mod Replays

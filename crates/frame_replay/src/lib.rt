@@ -1,17 +1,20 @@
 //! Files of transactions replayed into frames.
 #![tactic(auto)]
 
-mod answer;
-mod command;
-mod first_form;
-mod input;
-mod lists;
+mod laws;
+mod limits;
+mod output;
 mod paint;
+mod program;
 mod replay;
+mod resolve;
 mod scene;
 mod status;
+mod transaction;
 
-pub use command::run;
+pub use laws::replay_laws;
+pub use limits::{MAX_SIDE, MAX_SOLIDS};
+pub use program::{Command, run};
 pub use scene::{Operation, Scene, Solid, SolidList, View};
 pub use wr_io::{StdSink, StdSource};
 

@@ -104,4 +104,4 @@ txn_within =
 
 pub fault_within : (bytes : List ℕ) (c : Code) (p : ℕ) → IsFirstTxnFault bytes c p → p ≤ length bytes
 fault_within bytes c p (refused h) = omega (arith, txn_within.within 0 bytes c p (omega arith) h)
-fault_within bytes c p (surplus t front more e lt spells w v) = omega (arith, v, ap (λ (o : List ℕ). length o) e, length-append front more)
+fault_within bytes c p (surplus t prefix more e lt spells w v) = omega (arith, v, ap (λ (o : List ℕ). length o) e, length-append prefix more)

@@ -65,8 +65,8 @@ ended : (bytes : List ℕ) (t : TxnModel) (x : TxnModel × Unread) → Took txn_
 ended bytes t x took true h e =
     let f : ok x.0 ≡ Ok t = rw h at e in
     let nil : x.1.bytes ≡ [] = nil_from_length x.1.bytes (eqb-true _ _ h) in
-    let all : bytes ≡ took.front = took.parts ∙ ap (λ (o : List ℕ). took.front ++ o) nil ∙ append-nil took.front in
-    subst (λ (o : List ℕ). TxnSpells t o) (sym all) (subst (λ (u : TxnModel). TxnSpells u took.front) (ok_is x.0 t f) took.passes)
+    let all : bytes ≡ took.prefix = took.parts ∙ ap (λ (o : List ℕ). took.prefix ++ o) nil ∙ append-nil took.prefix in
+    subst (λ (o : List ℕ). TxnSpells t o) (sym all) (subst (λ (u : TxnModel). TxnSpells u took.prefix) (ok_is x.0 t f) took.passes)
 ended bytes t x took false h e = let f = rw h at e in absurd cc
 
 pub txn_found : (bytes : List ℕ) (t : TxnModel) → AreBytes bytes → txn_at bytes ≡ Ok t → TxnSpells t bytes
@@ -88,8 +88,8 @@ surplus_at bytes f x took true h e = let g = rw h at e in absurd cc
 surplus_at bytes f x took false h e =
     let g = rw h at e in
     let same : trailing x.1.at ≡ f = err_is (trailing x.1.at) f g in
-    let place : x.1.at ≡ length took.front = let p = took.place in omega (arith, p) in
-    subst (λ (d : Fault). IsFirstTxnFault bytes d.code d.at) same (surplus x.0 took.front x.1.bytes took.parts (some_left _ h) took.passes refl place)
+    let place : x.1.at ≡ length took.prefix = let p = took.place in omega (arith, p) in
+    subst (λ (d : Fault). IsFirstTxnFault bytes d.code d.at) same (surplus x.0 took.prefix x.1.bytes took.parts (some_left _ h) took.passes refl place)
 
 pub txn_failed : (bytes : List ℕ) (f : Fault) → AreBytes bytes → txn_at bytes ≡ Err f → IsFirstTxnFault bytes f.code f.at
 txn_failed bytes f k e =
@@ -106,9 +106,9 @@ rest_fails t at (b ∷ more) lt = let some : eqb (suc (length more)) 0 ≡ false
 
 pub fault_again : (bytes : List ℕ) (c : Code) (p : ℕ) → IsFirstTxnFault bytes c p → txn_at bytes ≡ fault c p
 fault_again bytes c p (refused h) = ap finished (refused_again txn_form 0 bytes c p h)
-fault_again bytes c p (surplus t front more e lt spells w v) =
-    let place : 0 + length front ≡ p = omega (arith, v) in
-    ap txn_at e ∙ txn_with t front more spells ∙ rest_fails t (0 + length front) more lt
+fault_again bytes c p (surplus t prefix more e lt spells w v) =
+    let place : 0 + length prefix ≡ p = omega (arith, v) in
+    ap txn_at e ∙ txn_with t prefix more spells ∙ rest_fails t (0 + length prefix) more lt
     ∙ ap (λ (at : ℕ). let d : Result TxnModel Fault = Err (record { code = code.Trailing; at = at }) in d) place
     ∙ ap (λ (k : Code). let d : Result TxnModel Fault = Err (record { code = k; at = p }) in d) (sym w)
 

@@ -21,7 +21,7 @@ IsTxnSpelled t = (bytes : List ℕ) × (length bytes ≤ 2 ^ 26) × TxnSpells t 
 -- whole transaction.
 pub data IsFirstTxnFault (bytes : List ℕ) (c : Code) (p : ℕ) : Type 0 where
   refused : Refuses txn_form 0 bytes c p → IsFirstTxnFault bytes c p
-  surplus : (t : TxnModel) (front more : List ℕ) → bytes ≡ front ++ more → 0 < length more → TxnSpells t front → c ≡ code.Trailing → p ≡ length front
+  surplus : (t : TxnModel) (prefix more : List ℕ) → bytes ≡ prefix ++ more → 0 < length more → TxnSpells t prefix → c ≡ code.Trailing → p ≡ length prefix
       → IsFirstTxnFault bytes c p
 
 -- Each fault that is answered is the first one.

@@ -1,2 +1,4 @@
-pub mod Points
 pub mod Fits
+pub mod Points
+pub mod Rects
+pub mod Sames

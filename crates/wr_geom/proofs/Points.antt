@@ -68,13 +68,13 @@ min_in {p = p} {q = q} f g = record { low = omega (arith, ints, clamps, f.low, g
 
 -- ---- rectangles with and without points
 
-has_sides : (b : Bounds) → has_points b ≡ true → HasSides b
+pub has_sides : (b : Bounds) → has_points b ≡ true → HasSides b
 unfolding has_points
 has_sides b h =
     let k = and_parts (int_lt b.x0 b.x1) (int_lt b.y0 b.y1) h in
     record { across = lt_is b.x0 b.x1 k.0; down = lt_is b.y0 b.y1 k.1 }
 
-sides_has : (b : Bounds) → HasSides b → has_points b ≡ true
+pub sides_has : (b : Bounds) → HasSides b → has_points b ≡ true
 unfolding has_points
 sides_has b h = and_from (int_lt b.x0 b.x1) (int_lt b.y0 b.y1) (is_lt b.x0 b.x1 h.across) (is_lt b.y0 b.y1 h.down)
 
@@ -83,10 +83,10 @@ inside_sides : (b : Bounds) (x y : ℤ) → IsInside b x y → HasSides b
 inside_sides b x y h = record { across = omega (arith, ints, h.left, h.right); down = omega (arith, ints, h.top, h.bottom) }
 
 -- the first corner lies in a rectangle with sides
-corner_inside : (b : Bounds) → HasSides b → IsInside b b.x0 b.y0
+pub corner_inside : (b : Bounds) → HasSides b → IsInside b b.x0 b.y0
 corner_inside b h = record { left = omega (arith, ints); right = h.across; top = omega (arith, ints); bottom = h.down }
 
-no_points : (b : Bounds) → has_points b ≡ false → HasNoPoint b
+pub no_points : (b : Bounds) → has_points b ≡ false → HasNoPoint b
 no_points b e x y = misses_it b x y (λ i. true≢false (sym (sides_has b (inside_sides b x y i)) ∙ e))
 
 pub has_none : (b : Bounds) → HasNoPoint b → has_points b ≡ false
@@ -105,6 +105,11 @@ empty_from b t e = (
 nowhere_none : HasNoPoint nowhere
 unfolding has_points
 nowhere_none = no_points nowhere refl
+
+pub nowhere_rect : IsRect nowhere
+nowhere_rect =
+    let zero : IsCoordinate (pos 0) = record { low = omega (arith, ints); high = omega (arith, ints) } in
+    record { across = omega (arith, ints); down = omega (arith, ints); in_range = record { left = zero; top = zero; right = zero; bottom = zero } }
 
 -- ---- area
 
@@ -164,6 +169,10 @@ pub intersection_apart : (a b : Bounds) → ((x y : ℤ) → IsFalse (holds a x 
 unfolding intersection
 intersection_apart a b f = ap (λ (t : Bool). if t then overlap a b else nowhere) (has_none (overlap a b) (λ x y. overlap_points a b x y ∙ f x y))
 
+-- an intersection without points is nowhere
+pub intersection_or_nowhere : (a b : Bounds) → has_points (intersection a b) ≡ false → intersection a b ≡ nowhere
+intersection_or_nowhere a b e = intersection_apart a b (λ x y. sym (intersection_points a b x y) ∙ no_points (intersection a b) e x y)
+
 pub intersection_met : (a b : Bounds) → HasSides (overlap a b) → overlap a b ≡ intersection a b
 unfolding intersection
 intersection_met a b h = ap (λ (t : Bool). if t then overlap a b else nowhere) (sym (sides_has (overlap a b) h))
@@ -211,13 +220,13 @@ hull_right a b x y h =
     record { left = omega (arith, ints, clamps, h.left); right = omega (arith, ints, clamps, h.right); top = omega (arith, ints, clamps, h.top); bottom = omega (arith, ints, clamps, h.bottom) }
 
 -- the edges of the first lie on or beyond those of the second
-record IsAround (r b : Bounds) : Type 0 where
-  left : r.x0 ≤ℤ b.x0
-  right : b.x1 ≤ℤ r.x1
-  top : r.y0 ≤ℤ b.y0
-  bottom : b.y1 ≤ℤ r.y1
+pub record IsAround (r b : Bounds) : Type 0 where
+  pub left : r.x0 ≤ℤ b.x0
+  pub right : b.x1 ≤ℤ r.x1
+  pub top : r.y0 ≤ℤ b.y0
+  pub bottom : b.y1 ≤ℤ r.y1
 
-around : (r b : Bounds) → HasSides b → Covers r b → IsAround r b
+pub around : (r b : Bounds) → HasSides b → Covers r b → IsAround r b
 around r b s f =
     let first = inside r b.x0 b.y0 (f b.x0 b.y0 (holds_it b b.x0 b.y0 (corner_inside b s))) in
     let x = b.x1 -ℤ pos 1 in
@@ -231,7 +240,7 @@ hull_least a b r x y f g h =
     record { left = omega (arith, ints, clamps, h.left, f.left, g.left); right = omega (arith, ints, clamps, h.right, f.right, g.right); top = omega (arith, ints, clamps, h.top, f.top, g.top); bottom = omega (arith, ints, clamps, h.bottom, f.bottom, g.bottom) }
 
 -- what `bounding` gives, by whether each has points
-abbrev bound_by : Bounds → Bounds → Bool → Bool → Bounds
+abbrev pub bound_by : Bounds → Bounds → Bool → Bool → Bounds
 bound_by a b s t = if s then (if t then hull a b else a) else (if t then b else nowhere)
 
 -- what holds of the least rectangle with the points of both
@@ -269,6 +278,11 @@ bound_if a b false false e f = record {
   least = λ q _ _. none_covered q nowhere nowhere_none;
   empty = λ _ _. refl;
 }
+
+-- the bounds of two, by whether each has points
+pub bounding_is_least : (a b : Bounds) → IsLeastBound a b (bounding a b)
+unfolding bounding
+bounding_is_least a b = bound_if a b (has_points a) (has_points b) refl refl
 
 -- a rectangle with both tests known is the bound, with all its laws
 pub bound_laws : (a b : Bounds) (s t : Bool) → not s ≡ not (has_points a) → not t ≡ not (has_points b) → (bound_by a b s t ≡ bounding a b) × IsLeastBound a b (bound_by a b s t)

@@ -1,6 +1,7 @@
 -- Rectangles as sets of points of the plane.
 use Rattle.std.specs.Prelude.{ℕ, ◌*◌, ◌^◌, ℤ, pos, neg_ℤ, ◌+ℤ◌, ◌-ℤ◌, ◌≤ℤ◌, Bool, ◌&&◌, int_le, int_lt, unsigned_abs, IsTrue, IsFalse, if◌then◌else◌}
 use Rattle.std.specs.Int.{int_max, int_min}
+use Rattle.std.specs.Ordering.{int_eq}
 use Rattle.wr_geom.specs.declared.point.Point.{Point}
 
 -- from the first corner up to the second, without it
@@ -31,6 +32,10 @@ pub record IsRect (b : Bounds) : Type 0 where
 -- whether the point (x, y) lies in it
 unfoldable pub holds : Bounds → ℤ → ℤ → Bool
 holds b x y = int_le b.x0 x && int_lt x b.x1 && int_le b.y0 y && int_lt y b.y1
+
+-- whether all four edges are the same
+unfoldable pub same_rect : Bounds → Bounds → Bool
+same_rect a b = int_eq a.x0 b.x0 && (int_eq a.y0 b.y0 && (int_eq a.x1 b.x1 && int_eq a.y1 b.y1))
 
 -- no point lies in it
 abbrev pub HasNoPoint : Bounds → Type 0
@@ -68,6 +73,14 @@ bounding a b = if has_points a then (if has_points b then hull a b else a) else 
 abbrev pub shifted : Bounds → Point → Bounds
 shifted b by = record { x0 = b.x0 +ℤ by.x; y0 = b.y0 +ℤ by.y; x1 = b.x1 +ℤ by.x; y1 = b.y1 +ℤ by.y }
 
+-- how many pixels lie across it
+abbrev pub width_of : Bounds → ℕ
+width_of b = unsigned_abs (b.x1 -ℤ b.x0)
+
+-- how many pixels lie down it
+abbrev pub height_of : Bounds → ℕ
+height_of b = unsigned_abs (b.y1 -ℤ b.y0)
+
 -- width times height, the number of its points
 abbrev pub area_of : Bounds → ℕ
-area_of b = unsigned_abs (b.x1 -ℤ b.x0) * unsigned_abs (b.y1 -ℤ b.y0)
+area_of b = width_of b * height_of b

@@ -1,20 +1,21 @@
 -- Radii of corners and widths of sides, and when they fit a rectangle.
-use Rattle.std.specs.Prelude.{ℕ, ◌+◌, ◌≤◌, ◌-ℤ◌, Bool, ◌&&◌, nat_le, unsigned_abs}
+use Rattle.std.specs.Prelude.{ℕ, ◌+◌, ◌≤◌, Bool, ◌&&◌, ◌==◌, nat_le}
 use Rattle.wr_geom.specs.Bounds.{Bounds}
+pub use Rattle.wr_geom.specs.Bounds.{width_of, height_of}
 use Rattle.wr_geom.specs.declared.sides.Radii.{Radii}
 use Rattle.wr_geom.specs.declared.sides.Widths.{Widths}
-
--- how many pixels lie across a rectangle
-abbrev pub width_of : Bounds → ℕ
-width_of b = unsigned_abs (b.x1 -ℤ b.x0)
-
--- how many pixels lie down a rectangle
-abbrev pub height_of : Bounds → ℕ
-height_of b = unsigned_abs (b.y1 -ℤ b.y0)
 
 -- the radii of a rectangle without round corners
 abbrev pub square : Radii
 square = record { tl = (0, 0); tr = (0, 0); br = (0, 0); bl = (0, 0) }
+
+-- whether two corners have the same radii
+abbrev pub same_corner : ℕ × ℕ → ℕ × ℕ → Bool
+same_corner a b = (a.0 == b.0) && (a.1 == b.1)
+
+-- whether all eight radii are the same
+unfoldable pub same_radii : Radii → Radii → Bool
+same_radii a b = same_corner a.tl b.tl && (same_corner a.tr b.tr && (same_corner a.br b.br && same_corner a.bl b.bl))
 
 -- neither radius of a corner is greater than 4,096 pixels
 pub record IsSmallCorner (r : ℕ × ℕ) : Type 0 where

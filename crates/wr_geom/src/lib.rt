@@ -4,12 +4,16 @@
 //! No call takes memory.
 #![tactic(auto)]
 
+mod keys;
+mod laws;
 mod limits;
 mod no_memory;
 mod point;
 mod rect;
 mod sides;
 
+pub use keys::{SliceKey, TileKey};
+pub use laws::rect_laws;
 pub use limits::{MAX_RADIUS, MAX_RECT_COORDINATE};
 pub use no_memory::NoMemory;
 pub use point::Point;

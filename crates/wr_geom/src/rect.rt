@@ -1,6 +1,5 @@
 ghost use Rattle.std.specs.Prelude.{◌≡◌, ◌+ℤ◌, ◌&&◌, ◌↔◌, ℤ, IsTrue, IsFalse, IsSome, IfSome, not};
-ghost use Rattle.wr_geom.specs.Bounds.{Bounds, IsRect, IsInRange, HasNoPoint, Covers, holds, has_points, nowhere, intersection, hull, bounding, shifted, area_of};
-ghost use Rattle.wr_geom.specs.Sides.{width_of, height_of};
+ghost use Rattle.wr_geom.specs.Bounds.{Bounds, IsRect, IsInRange, HasNoPoint, Covers, holds, has_points, same_rect, nowhere, intersection, hull, bounding, shifted, width_of, height_of, area_of};
 
 use super::Point;
 use super::limits::MAX_RECT_COORDINATE;
@@ -9,7 +8,7 @@ use std::marker::Model;
 /// The points with `x0 <= x < x1` and `y0 <= y < y1`, in whole pixels.
 ///
 /// The corners are in order, and each coordinate lies within -2^29 and 2^29.
-#[derive(Clone, Copy, Debug, PartialEq, Eq, Hash)]
+#[derive(Clone, Copy, Debug, PartialEq, Eq, PartialOrd, Ord, Hash)]
 pub struct Rect {
     x0: i32,
     y0: i32,
@@ -77,6 +76,15 @@ impl Rect {
         ensures rect { IsRect self }
     {
         self.y1
+    }
+
+    /// Whether all four edges are the same, as `==` says.
+    #[tactic(auto, unfolding(crate::specs::Bounds::same_rect))]
+    pub fn is_same(self, o: Rect) -> bool
+        ensures value { result ≡ same_rect self o }
+        ensures same { IsTrue result ↔ (self ≡ o) }
+    {
+        self == o
     }
 
     /// Whether no point lies in it.

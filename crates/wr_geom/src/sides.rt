@@ -1,5 +1,5 @@
 ghost use Rattle.std.specs.Prelude.{◌≡◌, ◌≤◌, ◌↔◌, IsTrue};
-ghost use Rattle.wr_geom.specs.Sides.{IsSmallCorner, AreSmallRadii, AreSmallWidths, RadiiFit, WidthsFit, radii_fit, widths_fit};
+ghost use Rattle.wr_geom.specs.Sides.{IsSmallCorner, AreSmallRadii, AreSmallWidths, RadiiFit, WidthsFit, radii_fit, widths_fit, same_radii};
 
 use super::Rect;
 use super::limits::MAX_RADIUS;
@@ -47,6 +47,15 @@ impl Radii {
             && self.bl.0 as u32 + self.br.0 as u32 <= width
             && self.tl.1 as u32 + self.bl.1 as u32 <= height
             && self.tr.1 as u32 + self.br.1 as u32 <= height
+    }
+
+    /// Whether all eight radii are the same, as `==` says.
+    #[tactic(auto, unfolding(crate::specs::Sides::same_radii))]
+    pub fn are_same(self, o: Radii) -> bool
+        ensures value { result ≡ same_radii self o }
+        ensures same { IsTrue result ↔ (self ≡ o) }
+    {
+        self == o
     }
 
     /// Whether no radius is greater than `MAX_RADIUS`.

@@ -1,6 +1,7 @@
 ghost use Rattle.std.specs.Prelude.{◌≡◌, IfOk};
 
-use super::{NoMemory, Point, Rect};
+use super::{NoMemory, Point, Radii, Rect, SliceKey, TileKey, Widths, rect_laws};
+use std::cmp::Ordering;
 use std::test::Fail;
 
 fn rect(x0: i32, y0: i32, x1: i32, y1: i32) -> Result<Rect, Fail>
@@ -46,6 +47,76 @@ fn keeps_its_range(rt: HostRuntime) -> Result<(), Fail> {
     assert!(rt; Rect::new(0, 0, far + 1, 0).is_none());
     assert!(rt; Rect::new(-far - 1, 0, 0, 0).is_none());
     assert!(rt; Rect::new(1, 0, 0, 0).is_none());
+    Ok(())
+}
+
+#[test]
+fn sides_fit(rt: HostRuntime) -> Result<(), Fail> {
+    let rect = rect(-2, 0, 8, 5)?;
+    assert_eq!(rt; (rect.width(), rect.height()), (10, 5));
+    let corner = (5, 2);
+    let radii = Radii {
+        tl: corner,
+        br: corner,
+        tr: (5, 3),
+        bl: (6, 3),
+    };
+    assert!(rt; !radii.fit(rect));
+    assert!(rt;
+        Radii {
+            bl: (5, 3),
+            ..radii
+        }
+        .fit(rect)
+    );
+    assert!(rt; radii.are_small());
+    assert!(rt;
+        !Radii {
+            tr: (0, 4097),
+            ..Radii::SQUARE
+        }
+        .are_small()
+    );
+    let widths = Widths {
+        top: 1,
+        right: 3,
+        bottom: 4,
+        left: 7,
+    };
+    assert!(rt; widths.fit(rect));
+    assert!(rt; !Widths { top: 2, ..widths }.fit(rect));
+    assert!(rt;
+        !Widths {
+            left: 4097,
+            ..widths
+        }
+        .are_small()
+    );
+    Ok(())
+}
+
+#[test]
+fn keys_and_sums(rt: HostRuntime) -> Result<(), Fail> {
+    let slice = SliceKey {
+        scroll: Some((1, 65535)),
+        nth: 0,
+    };
+    let first = TileKey {
+        slice,
+        col: -1,
+        row: 4,
+    };
+    assert_eq!(rt;
+        first.cmp(&TileKey {
+            col: 0,
+            row: -1,
+            ..first
+        }),
+        Ordering::Less
+    );
+    let sum = Point { x: 7, y: -3 }.plus(Point { x: -9, y: 3 });
+    assert_eq!(rt; sum, Point { x: -2, y: 0 });
+    rect_laws();
     Ok(())
 }
 

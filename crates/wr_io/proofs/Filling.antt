@@ -4,7 +4,7 @@ use Rattle.std.proofs.Math.Seq.{take-append-add}
 use Rattle.std.proofs.lemmas.List.{take-append-le, take_rest}
 use Rattle.std.proofs.lemmas.Slice.{take-put_mid_below}
 use borrow.Rule.Slice.PartMut.{put_mid, post_of}
-use Rattle.wr_io.specs.Ends.{ReadsFrom, ReadsExactly, WritesPart}
+use Rattle.wr_io.specs.Streams.{ReadsFrom, ReadsExactly, WritesPart}
 
 -- so many bytes were put, and the others are left
 pub record HasRead (bytes : List ℕ) (new : Option (List ℕ)) (out : List ℕ) (filled : ℕ) : Type 0 where

@@ -1,5 +1,5 @@
 pub mod Codes
-pub mod Ends
+pub mod Streams
 pub mod Memory
 pub mod Unread
 pub mod Reading

@@ -3,10 +3,10 @@ use Rattle.std.specs.Prelude.{◌≡◌, ℕ, ℤ, ◌+◌, List, [], ◌∷◌,
 use Rattle.std.specs.Int.{Width, w32, byte_len, from_le_bytes, cast_signed}
 use Rattle.wr_io.specs.Unread.{Unread}
 
--- A reader answered what reading gives, and its cursor stands behind that; it stays where there is none.
-abbrev pub Reads : {X : Type 0} → Option X → Unread → Unread → Option (X × Unread) → Type 0
-Reads (Some x) old new read = read ≡ Some (x, new)
-Reads None old new read = (read ≡ None) × (new ≡ old)
+-- A reader took what is there, and its cursor stands after that; the cursor stays where there is none.
+abbrev pub Takes : {X : Type 0} → Option X → Unread → Unread → Option (X × Unread) → Type 0
+Takes (Some x) old new read = read ≡ Some (x, new)
+Takes None old new read = (read ≡ None) × (new ≡ old)
 
 abbrev pub byte_in : ℕ → List ℕ → Option (ℕ × Unread)
 byte_in at [] = None

@@ -3,12 +3,12 @@
 ghost use Rattle.std.specs.Prelude.{◌≡◌, Option};
 ghost use Rattle.std.specs.Option.{option_map};
 ghost use Rattle.std.specs.Int.{w16, w32};
-ghost use Rattle.wr_io.specs.Reading.{Reads, byte_at, bytes_at, number_at, signed_at};
+ghost use Rattle.wr_io.specs.Reading.{Takes, byte_at, bytes_at, number_at, signed_at};
 
 use std::marker::Model;
 
-/// Where reading stands in some bytes. Each reader answers `None`, and the cursor stays, exactly where
-/// fewer bytes are left than it takes.
+/// A position in some bytes, from which they are read. Each reader answers `None`, and the cursor stays,
+/// exactly where fewer bytes are left than it takes.
 #[derive(Debug, Drop)]
 pub struct Cursor<'a> {
     rest: &'a [u8],
@@ -34,7 +34,7 @@ impl<'a> Cursor<'a> {
         Cursor { rest: bytes, at: 0 }
     }
 
-    /// The place of the next byte: its offset in bytes from the first.
+    /// The position of the next byte: its offset in bytes from the first.
     pub fn at(&self) -> usize
         ensures { result ≡ self.now.at }
     {
@@ -44,7 +44,7 @@ impl<'a> Cursor<'a> {
     /// The next byte.
     #[tactic(auto, unfolding(crate::specs::Reading::byte_at))]
     pub fn u8(&mut self) -> Option<u8>
-        ensures { Reads result self.old self.new (byte_at self.old) }
+        ensures { Takes result self.old self.new (byte_at self.old) }
     {
         let (first, rest) = self.rest.split_first()?;
         self.rest = rest;
@@ -55,13 +55,13 @@ impl<'a> Cursor<'a> {
     /// A number of two bytes, the lowest first.
     #[tactic(auto, unfolding(crate::specs::Reading::number_at))]
     pub fn u16(&mut self) -> Option<u16>
-        ensures { Reads result self.old self.new (number_at w16 self.old) }
+        ensures { Takes result self.old self.new (number_at w16 self.old) }
     {
         if self.rest.len() < 2 {
             return None;
         }
-        let (front, rest) = self.rest.split_at(2);
-        let number = u16::from_le_bytes([front[0], front[1]]);
+        let (piece, rest) = self.rest.split_at(2);
+        let number = u16::from_le_bytes([piece[0], piece[1]]);
         self.rest = rest;
         self.at += 2;
         Some(number)
@@ -70,13 +70,13 @@ impl<'a> Cursor<'a> {
     /// A number of four bytes, the lowest first.
     #[tactic(auto, unfolding(crate::specs::Reading::number_at))]
     pub fn u32(&mut self) -> Option<u32>
-        ensures { Reads result self.old self.new (number_at w32 self.old) }
+        ensures { Takes result self.old self.new (number_at w32 self.old) }
     {
         if self.rest.len() < 4 {
             return None;
         }
-        let (front, rest) = self.rest.split_at(4);
-        let number = u32::from_le_bytes([front[0], front[1], front[2], front[3]]);
+        let (piece, rest) = self.rest.split_at(4);
+        let number = u32::from_le_bytes([piece[0], piece[1], piece[2], piece[3]]);
         self.rest = rest;
         self.at += 4;
         Some(number)
@@ -85,7 +85,7 @@ impl<'a> Cursor<'a> {
     /// A number of four bytes in two's complement, the lowest first.
     #[tactic(auto, unfolding(crate::specs::Reading::signed_at))]
     pub fn i32(&mut self) -> Option<i32>
-        ensures { Reads result self.old self.new (signed_at self.old) }
+        ensures { Takes result self.old self.new (signed_at self.old) }
     {
         Some(self.u32()?.cast_signed())
     }
@@ -93,14 +93,14 @@ impl<'a> Cursor<'a> {
     /// The next `n` bytes.
     #[tactic(auto, unfolding(crate::specs::Reading::bytes_at))]
     pub fn bytes(&mut self, n: usize) -> Option<&'a [u8]>
-        ensures { Reads (option_map (λ piece. piece.now) result) self.old self.new (bytes_at n self.old) }
+        ensures { Takes (option_map (λ piece. piece.now) result) self.old self.new (bytes_at n self.old) }
     {
         if self.rest.len() < n {
             return None;
         }
-        let (front, rest) = self.rest.split_at(n);
+        let (piece, rest) = self.rest.split_at(n);
         self.rest = rest;
         self.at += n;
-        Some(front)
+        Some(piece)
     }
 }

@@ -57,7 +57,7 @@ impl Code {
     }
 }
 
-/// The first fault of some bytes, and its place: the offset in bytes of the first byte of the field
+/// The first fault of some bytes, and its position: the offset in bytes of the first byte of the field
 /// at fault.
 #[derive(Clone, Copy, Debug, PartialEq, Eq, Hash, Error)]
 #[error("{code}, at byte {at}")]

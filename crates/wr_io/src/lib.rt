@@ -3,16 +3,16 @@
 #![tactic(auto)]
 
 mod cursor;
-mod ends;
 mod fault;
 mod memory;
 mod standard;
+mod streams;
 
 pub use cursor::Cursor;
-pub use ends::{Failed, Sink, Source, read_exact, write_whole};
 pub use fault::{Code, DecodeError, Fault};
 pub use memory::{MemSink, MemSource};
 pub use standard::{StdSink, StdSource};
+pub use streams::{Failed, Sink, Source, read_exact, write_whole};
 
 #[cfg(test)]
 mod tests;

@@ -1,10 +1,10 @@
 //! A source and a sink over memory, which tell their bytes and fail where they are told to.
 
-ghost use Rattle.std.specs.Prelude.{◌≡◌, ◌≤◌, ◌<◌, ◌++◌, [], length, take, Some, Ok, Err, IfSome, IfOk, OnErr, MatchResult, if◌then◌else◌, Bool};
-ghost use Rattle.wr_io.specs.Ends.{HasFault, ReadsFrom, WritesPart};
-ghost use Rattle.wr_io.specs.Memory.{call_fails, counted, after_read, read_count, read_fails, after_write, write_count, write_fails};
+ghost use Rattle.std.specs.Prelude.{◌≡◌, ◌≤◌, ◌<◌, ◌++◌, [], length, take, Some, Ok, Err, IfSome, IfOk, OnOk, OnErr, MatchResult, if◌then◌else◌, Bool};
+ghost use Rattle.wr_io.specs.Streams.{HasFailed, ReadsFrom, WritesPart};
+ghost use Rattle.wr_io.specs.Memory.{call_fails, after_read, read_count, read_fails, after_write, write_count, write_fails};
 
-use crate::ends::{Failed, Sink, Source};
+use crate::streams::{Failed, Sink, Source};
 use std::marker::Model;
 
 /// Whether the next call fails: where its number, from 1, is listed. Calls are counted up to the last
@@ -71,8 +71,9 @@ impl Source for MemSource {
         ensures count { IfOk result (λ n. n ≤ length out.new) }
         ensures told { IfSome (Some self.old.bytes) (λ bytes.
             MatchResult result (ReadsFrom bytes (Some self.new.bytes) out.new) (λ _. Some self.new.bytes ≡ Some bytes)) }
+        ensures ok_keeps_count { OnOk result (self.new.faults ≡ self.old.faults) }
         ensures never_falls { self.old.faults ≤ self.new.faults }
-        ensures failed { OnErr result (HasFault self.old.faults self.new.faults) }
+        ensures failed { OnErr result (HasFailed self.old.faults self.new.faults) }
 
         // Exactly what it does.
         ensures value { result ≡ (if read_fails self.old then Err (record {}) else Ok (read_count self.old (length out.old))) }
@@ -148,8 +149,9 @@ impl Sink for MemSink {
         ensures some { 0 < length piece.now → IfOk result (λ n. 0 < n) }
         ensures told { IfSome (Some self.old.bytes) (λ bytes.
             MatchResult result (WritesPart bytes (Some self.new.bytes) piece.now) (λ _. Some self.new.bytes ≡ Some bytes)) }
+        ensures ok_keeps_count { OnOk result (self.new.faults ≡ self.old.faults) }
         ensures never_falls { self.old.faults ≤ self.new.faults }
-        ensures failed { OnErr result (HasFault self.old.faults self.new.faults) }
+        ensures failed { OnErr result (HasFailed self.old.faults self.new.faults) }
 
         // Exactly what it does.
         ensures value { result ≡ (if write_fails self.old piece.now then Err (record {}) else Ok (write_count self.old piece.now)) }

@@ -69,6 +69,28 @@ fn adapts_a_standard_writer(rt: HostRuntime) {
 }
 
 #[test]
+fn an_empty_piece_is_no_failure(rt: HostRuntime) -> Result<(), Fail> {
+    let mut none = [0u8; 0];
+    let mut sink = StdSink::new(none.as_mut_slice());
+    assert_eq!(rt; sink.write(&[]), Ok(0));
+    assert_eq!(rt; sink.write(&[1]), Err(Failed));
+    let mut full = MemSink::new(Vec::new(rt.alloc()), 1, Vec::new(rt.alloc()));
+    assert_eq!(rt; full.write(&[]), Ok(0));
+    assert_eq!(rt; full.write(&[1]), Err(Failed));
+    Ok(())
+}
+
+#[test]
+fn a_failed_read_is_not_made_again(rt: HostRuntime) -> Result<(), Fail> {
+    let bytes = [1, 2, 3, 4, 5].to_vec(rt.alloc())?;
+    let mut source = MemSource::new(bytes, 2, [2].to_vec(rt.alloc())?);
+    let mut out = [0u8; 4];
+    assert_eq!(rt; read_exact(&mut source, &mut out), Err(Failed));
+    assert_eq!(rt; source.left(), [3, 4, 5].as_slice());
+    Ok(())
+}
+
+#[test]
 fn reads_numbers_from_the_lowest_byte(rt: HostRuntime) {
     let mut cursor = Cursor::new(&[1, 2, 1, 255, 255, 255, 255, 4, 0, 0, 0, 9, 8]);
     assert_eq!(rt; cursor.u8(), Some(1));

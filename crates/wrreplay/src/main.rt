@@ -1,47 +1,11 @@
 //! `wrreplay` reads a file of transactions on its standard input and writes a record for each, a frame's
-//! pixels among them, on its standard output.
+//! pixels among them, on its standard output. Its stored run is over a file that is cut before its closing
+//! byte, and ends with status 2.
 #![tactic(auto)]
 
-use frame_replay::{StdSink, StdSource, run};
-use std::io::{BufReader, ErrorKind};
+use command_line::run_on_streams;
 use std::process::ExitCode;
-use std::{env, io};
-
-/// The exit status for want of memory, also where it comes before the run.
-const OUT_OF_MEMORY: u8 = 5;
-
-/// The words after the program's name. Where a word isn't text there are none, since no command has
-/// such a word: the run then answers as it does for any words that aren't a command's.
-fn words(rt: &HostRuntime) -> io::Result<Vec<String>> {
-    let mut words = Vec::new(rt.alloc());
-    match env::args(rt) {
-        Ok(given) => {
-            for word in given.skip(1) {
-                words.push(word)?;
-            }
-            Ok(words)
-        }
-        Err(error) if error.kind() == ErrorKind::InvalidData => Ok(words),
-        Err(error) => Err(error),
-    }
-}
-
-/// Runs over the standard streams.
-fn start(rt: &HostRuntime) -> io::Result<u8> {
-    let words = words(rt)?;
-    let mut source = StdSource::new(BufReader::new(rt.alloc(), rt.stdin())?);
-    let mut sink = StdSink::new(rt.stdout());
-    let mut notes = StdSink::new(rt.stderr());
-    Ok(run(rt.alloc(), &words, &mut source, &mut sink, &mut notes))
-}
 
 fn main(rt: HostRuntime) -> ExitCode {
-    match start(&rt) {
-        Ok(status) => ExitCode::from(status),
-        Err(_) => {
-            // A failing note changes no status.
-            let _ = eprintln!(rt; "wrreplay: out of memory");
-            ExitCode::from(OUT_OF_MEMORY)
-        }
-    }
+    run_on_streams(&rt)
 }

@@ -1,0 +1,13 @@
+use Rattle.frame_replay.proofs.Members.{more_plain, one_other, all_plain}
+use Rattle.frame_replay.proofs.resolve.solids.Goals as goal
+
+pub returns-in_default : goal.returns-in_default
+returns-in_default c =
+    one_other c.args.items.now c.loop-item.item-index c.item-item.result c.loop-item.solids.items _ c.loop-item-test.true c.item-item.is c.in_default.ensures c.loop-item.invariant
+
+pub loop-item-preserved : goal.loop-item-preserved
+loop-item-preserved c =
+    rw c.in_ok-push.ensures.items (more_plain c.args.items.now c.loop-item.item-index c.item-item.result c.loop-item.solids.items c.in-Some.solid _ c.loop-item-test.true c.item-item.is c.in-Some.ensures c.loop-item.invariant)
+
+pub returns : goal.returns
+returns c = all_plain c.args.items.now c.loop-item.item-index c.loop-item.solids.items _ c.loop-item-test.false c.loop-item.invariant

@@ -1,0 +1,135 @@
+//! The top call: the words, the input, the output, and what a status notes.
+
+ghost use Rattle.std.specs.Prelude.{◌≡◌, ◌≢◌, ◌≤◌, ◌↔◌, ◌∷◌, [], IfSome, None, ℕ, List};
+ghost use Rattle.wr_io.specs.Streams.{HasFailed};
+ghost use Rattle.record_frame.specs.Reading.{Took};
+ghost use Rattle.record_frame.specs.Writing.{IsPrefix, Wrote};
+ghost use Rattle.frame_replay.specs.Outcome.{note_of};
+ghost use Rattle.frame_replay.specs.Commands.{command_in, command_named, completes, leaves};
+
+use crate::replay::Replay;
+use crate::status::answer_status;
+use record_frame::Transactions;
+use std::alloc::Global;
+use wr_io::{Sink, Source, write_whole};
+
+/// What the words of a run ask for.
+#[derive(Clone, Copy, Debug, PartialEq, Eq)]
+pub enum Command {
+    /// A record for each transaction, a frame's pixels among them.
+    Replay,
+}
+
+/// The exit status of words that name no command.
+const USAGE: u8 = 1;
+
+/// The command of one word.
+fn command_word(word: &str) -> Option<Command>
+    ensures { result ≡ command_in (word.now ∷ []) }
+{
+    match word {
+        "replay" => Some(Command::Replay),
+        _ => None,
+    }
+}
+
+/// The command that the words name.
+fn find_command(words: &[String]) -> Option<Command>
+    ensures { result ≡ command_named words.now }
+{
+    match words {
+        [word] => command_word(word.as_str()),
+        _ => None,
+    }
+}
+
+/// Does what a command is for, and gives the exit status: 0, or 2 to 5.
+fn perform<S: Source, K: Sink>(alloc: Global, command: Command, source: &mut S, sink: &mut K) -> u8
+    ensures range { (result ≢ 1) × (result ≤ 5) }
+    ensures told { IfSome (S.left source.old) (λ input. Took input (S.left source.new) (leaves command result (K.written sink.old) (K.written sink.new))) }
+    ensures source_never_falls { S.faults source.old ≤ S.faults source.new }
+    ensures sink_never_falls { K.faults sink.old ≤ K.faults sink.new }
+    ensures read_failed { result ≡ 3 → HasFailed (S.faults source.old) (S.faults source.new) }
+    ensures write_failed { result ≡ 4 → HasFailed (K.faults sink.old) (K.faults sink.new) }
+    ensures source_count { result ≢ 3 → S.faults source.new ≡ S.faults source.old }
+    ensures sink_count { result ≢ 4 → K.faults sink.new ≡ K.faults sink.old }
+    ensures complete { result ≢ 3 → result ≢ 4 → IfSome (S.left source.old) (completes command result) }
+{
+    match command {
+        Command::Replay => {
+            let by = Replay::new(alloc);
+            answer_status(alloc, b"WRF1", Transactions { by }, source, sink)
+        }
+    }
+}
+
+/// The text of a status, none for 0.
+fn note(status: u8) -> &'static str
+    ensures { result.now ≡ note_of status }
+{
+    match status {
+        1 => "usage: wrreplay replay [--stats] | paint | load NUMBER COUNT\n",
+        2 => "wrreplay: broken input\n",
+        3 => "wrreplay: read failed\n",
+        4 => "wrreplay: write failed\n",
+        5 => "wrreplay: out of memory\n",
+        _ => "",
+    }
+}
+
+/// Does all that the program does: `words` are those after its name. It reads the source, writes the
+/// sink, writes a text for each status but 0 to `notes`, and answers the exit status. Each record is
+/// written whole before the next is read, and the closing byte comes with status 0 alone. What follows
+/// the closing byte of the input stays in the source. No call on the source or the sink follows one
+/// that failed.
+///
+/// | status | comes |
+/// |---|---|
+/// | 0 | the input was answered up to its closing byte, and no call failed |
+/// | 1 | exactly where the words name no command |
+/// | 2 | exactly where the framing of the input is broken and it was read up to there, and no call failed |
+/// | 3 | only where a call on the source failed |
+/// | 4 | only where a call on the sink failed |
+/// | 5 | there was no memory |
+pub fn run<S: Source, K: Sink, N: Sink>(
+    alloc: Global,
+    words: &[String],
+    source: &mut S,
+    sink: &mut K,
+    notes: &mut N,
+) -> u8
+    ensures range { result ≤ 5 }
+
+    // Status 1, exactly by the words.
+    ensures usage { (result ≡ 1) ↔ (command_named words.now ≡ None) }
+    ensures untouched { result ≡ 1 → (source.new ≡ source.old) × (sink.new ≡ sink.old) }
+
+    // What was taken and written, where that is told.
+    ensures told { IfSome (command_named words.now) (λ command. IfSome (S.left source.old) (λ input.
+        Took input (S.left source.new) (leaves command result (K.written sink.old) (K.written sink.new)))) }
+
+    // The counts of failed calls: status 3 where one of the source failed, and 4 where one of the sink did.
+    ensures source_never_falls { S.faults source.old ≤ S.faults source.new }
+    ensures sink_never_falls { K.faults sink.old ≤ K.faults sink.new }
+    ensures read_failed { result ≡ 3 → HasFailed (S.faults source.old) (S.faults source.new) }
+    ensures write_failed { result ≡ 4 → HasFailed (K.faults sink.old) (K.faults sink.new) }
+    ensures source_count { result ≢ 3 → S.faults source.new ≡ S.faults source.old }
+    ensures sink_count { result ≢ 4 → K.faults sink.new ≡ K.faults sink.old }
+
+    // The status where no call failed.
+    ensures complete { IfSome (command_named words.now) (λ command. (¬ HasFailed (S.faults source.old) (S.faults source.new)) → (¬ HasFailed (K.faults sink.old) (K.faults sink.new))
+        → IfSome (S.left source.old) (completes command result)) }
+
+    // The note: its status's text, or a prefix of it where a call on the notes failed.
+    ensures note { (¬ HasFailed (N.faults notes.old) (N.faults notes.new)) → Wrote (N.written notes.old) (N.written notes.new) (note_of result) }
+    ensures note_prefix { (out : List ℕ) × IsPrefix out (note_of result) × Wrote (N.written notes.old) (N.written notes.new) out }
+    ensures notes_never_fall { N.faults notes.old ≤ N.faults notes.new }
+{
+    let answer = match find_command(words) {
+        Some(command) => perform(alloc, command, source, sink),
+        None => USAGE,
+    };
+    // A failing note changes no status.
+    let _ = write_whole(notes, note(answer).as_bytes());
+    answer
+}
