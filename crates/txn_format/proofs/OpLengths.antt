@@ -1,5 +1,5 @@
 -- How many bytes stand before those that an operation borrows.
-use Rattle.std.proofs.Common.{◌≡◌, ℕ, ◌+◌, List, [], ◌++◌, length, arith}
+use Rattle.std.proofs.Common.{◌≡◌, ℕ, ◌+◌, List, [], length, arith}
 use Rattle.std.proofs.lemmas.List.{length-append}
 use Rattle.field_forms.specs.Spelling.{u16_bytes, u32_bytes}
 use Rattle.txn_format.specs.Txn.{set_list, add_image, update_image, add_glyph}

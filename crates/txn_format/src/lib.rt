@@ -6,6 +6,7 @@ mod laws;
 mod limits;
 mod op;
 mod reading;
+mod tags;
 #[cfg(test)]
 mod tests;
 mod txn;

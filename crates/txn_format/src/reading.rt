@@ -15,7 +15,7 @@ use crate::fields::{
 };
 use crate::limits::MAX_PIPELINE;
 use crate::txn::Fields;
-use crate::{Op, Placed, Txn};
+use crate::{Op, Placed, Txn, tags};
 use field_forms::{Reader, fault};
 use std::alloc::Global;
 use wr_io::{Code, DecodeError};
@@ -26,10 +26,10 @@ fn scene_op<'a>(reader: &mut Reader<'a>, at: u32, tag: u8) -> Result<Op<'a>, Dec
     ensures { ReadsBy op_model result reader.new (read (scene_op_form at tag) reader.old) }
 {
     match tag {
-        1 => set_list(reader),
-        2 => Ok(Op::RemovePipeline),
-        3 => scroll(reader),
-        4 => set_property(reader),
+        tags::SET_LIST => set_list(reader),
+        tags::REMOVE_PIPELINE => Ok(Op::RemovePipeline),
+        tags::SCROLL => scroll(reader),
+        tags::SET_PROPERTY => set_property(reader),
         _ => Err(fault(Code::BadTag, at)),
     }
 }
@@ -40,10 +40,10 @@ fn resource_op<'a>(reader: &mut Reader<'a>, tag: u8) -> Result<Op<'a>, DecodeErr
     ensures { ReadsBy op_model result reader.new (read (resource_op_form tag) reader.old) }
 {
     match tag {
-        5 => add_image(reader),
-        6 => update_image(reader),
-        7 => delete_image(reader),
-        8 => add_glyph(reader),
+        tags::ADD_IMAGE => add_image(reader),
+        tags::UPDATE_IMAGE => update_image(reader),
+        tags::DELETE_IMAGE => delete_image(reader),
+        tags::ADD_GLYPH => add_glyph(reader),
         _ => delete_font(reader),
     }
 }
@@ -58,15 +58,15 @@ fn root_op<'a>(
 ) -> Result<Op<'a>, DecodeError>
     ensures { ReadsBy op_model result reader.new (read (root_op_form pipeline at tag) reader.old) }
 {
-    if tag > 12 {
+    if tag > tags::DROP_TILES {
         return Err(fault(Code::BadTag, at));
     }
     if pipeline != 0 {
         return Err(fault(Code::NotRoot, at));
     }
     match tag {
-        10 => set_view(reader),
-        11 => tile_policy(reader),
+        tags::SET_VIEW => set_view(reader),
+        tags::TILE_POLICY => tile_policy(reader),
         _ => Ok(Op::DropTiles),
     }
 }
@@ -76,10 +76,10 @@ fn root_op<'a>(
 fn op<'a>(reader: &mut Reader<'a>, pipeline: u8, at: u32, tag: u8) -> Result<Op<'a>, DecodeError>
     ensures { ReadsBy op_model result reader.new (read (op_form pipeline at tag) reader.old) }
 {
-    if tag <= 4 {
+    if tag <= tags::SET_PROPERTY {
         return scene_op(reader, at, tag);
     }
-    if tag <= 9 {
+    if tag <= tags::DELETE_FONT {
         return resource_op(reader, tag);
     }
     root_op(reader, pipeline, at, tag)

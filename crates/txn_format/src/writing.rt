@@ -8,7 +8,7 @@ ghost use Rattle.txn_format.specs.Grammar.{TxnSpells};
 ghost use Rattle.txn_format.specs.Spelling.{op_bytes, placed_bytes, txn_bytes};
 ghost use Rattle.txn_format.specs.Checks.{HasFittingLength, FitsLength};
 
-use crate::{Op, Placed, Txn};
+use crate::{Op, Placed, Txn, tags};
 use blend_rules::Px;
 use field_forms::{put_byte, put_bytes, put_colour, put_flag, put_i32, put_u16, put_u32};
 use std::alloc::{AllocError, Global};
@@ -43,7 +43,7 @@ fn put_list(out: &mut Vec<u8>, epoch: u32, bytes: &[u8]) -> Result<(), AllocErro
     requires { length bytes.now < 2 ^ 32 }
     ensures { OnOk result (out.new.items ≡ out.old.items ++ op_bytes (set_list epoch bytes.now)) }
 {
-    put_byte(out, 1)?;
+    put_byte(out, tags::SET_LIST)?;
     put_u32(out, epoch)?;
     put_u32(out, bytes.len() as u32)?;
     put_bytes(out, bytes)
@@ -52,7 +52,7 @@ fn put_list(out: &mut Vec<u8>, epoch: u32, bytes: &[u8]) -> Result<(), AllocErro
 fn put_scroll(out: &mut Vec<u8>, sid: u16, x: i32, y: i32) -> Result<(), AllocError>
     ensures { OnOk result (out.new.items ≡ out.old.items ++ op_bytes (scroll sid x y)) }
 {
-    put_byte(out, 3)?;
+    put_byte(out, tags::SCROLL)?;
     put_u16(out, sid)?;
     put_i32(out, x)?;
     put_i32(out, y)
@@ -61,7 +61,7 @@ fn put_scroll(out: &mut Vec<u8>, sid: u16, x: i32, y: i32) -> Result<(), AllocEr
 fn put_offset(out: &mut Vec<u8>, id: u16, x: i32, y: i32) -> Result<(), AllocError>
     ensures { OnOk result (out.new.items ≡ out.old.items ++ op_bytes (set_offset id x y)) }
 {
-    put_byte(out, 4)?;
+    put_byte(out, tags::SET_PROPERTY)?;
     put_byte(out, 0)?;
     put_u16(out, id)?;
     put_i32(out, x)?;
@@ -71,7 +71,7 @@ fn put_offset(out: &mut Vec<u8>, id: u16, x: i32, y: i32) -> Result<(), AllocErr
 fn put_opacity(out: &mut Vec<u8>, id: u16, opacity: u8) -> Result<(), AllocError>
     ensures { OnOk result (out.new.items ≡ out.old.items ++ op_bytes (set_opacity id opacity)) }
 {
-    put_byte(out, 4)?;
+    put_byte(out, tags::SET_PROPERTY)?;
     put_byte(out, 1)?;
     put_u16(out, id)?;
     put_byte(out, opacity)
@@ -80,7 +80,7 @@ fn put_opacity(out: &mut Vec<u8>, id: u16, opacity: u8) -> Result<(), AllocError
 fn put_image(out: &mut Vec<u8>, key: u32, w: u16, h: u16, pixels: &[u8]) -> Result<(), AllocError>
     ensures { OnOk result (out.new.items ≡ out.old.items ++ op_bytes (add_image key w h pixels.now)) }
 {
-    put_byte(out, 5)?;
+    put_byte(out, tags::ADD_IMAGE)?;
     put_u32(out, key)?;
     put_u16(out, w)?;
     put_u16(out, h)?;
@@ -99,7 +99,7 @@ struct Part {
 fn put_update(out: &mut Vec<u8>, key: u32, part: Part, pixels: &[u8]) -> Result<(), AllocError>
     ensures { OnOk result (out.new.items ≡ out.old.items ++ op_bytes (update_image key part.x part.y part.w part.h pixels.now)) }
 {
-    put_byte(out, 6)?;
+    put_byte(out, tags::UPDATE_IMAGE)?;
     put_u32(out, key)?;
     put_u16(out, part.x)?;
     put_u16(out, part.y)?;
@@ -117,7 +117,7 @@ fn put_glyph(
 ) -> Result<(), AllocError>
     ensures { OnOk result (out.new.items ≡ out.old.items ++ op_bytes (add_glyph font glyph sides.0 sides.1 mask.now)) }
 {
-    put_byte(out, 8)?;
+    put_byte(out, tags::ADD_GLYPH)?;
     put_u16(out, font)?;
     put_u16(out, glyph)?;
     put_u16(out, sides.0)?;
@@ -128,7 +128,7 @@ fn put_glyph(
 fn put_view(out: &mut Vec<u8>, w: u16, h: u16, clear: Px) -> Result<(), AllocError>
     ensures { OnOk result (out.new.items ≡ out.old.items ++ op_bytes (set_view w h clear)) }
 {
-    put_byte(out, 10)?;
+    put_byte(out, tags::SET_VIEW)?;
     put_u16(out, w)?;
     put_u16(out, h)?;
     put_colour(out, clear)
@@ -137,7 +137,7 @@ fn put_view(out: &mut Vec<u8>, w: u16, h: u16, clear: Px) -> Result<(), AllocErr
 fn put_tile_policy(out: &mut Vec<u8>, tw: u16, th: u16, budget: u32) -> Result<(), AllocError>
     ensures { OnOk result (out.new.items ≡ out.old.items ++ op_bytes (tile_policy tw th budget)) }
 {
-    put_byte(out, 11)?;
+    put_byte(out, tags::TILE_POLICY)?;
     put_u16(out, tw)?;
     put_u16(out, th)?;
     put_u32(out, budget)
@@ -146,14 +146,14 @@ fn put_tile_policy(out: &mut Vec<u8>, tw: u16, th: u16, budget: u32) -> Result<(
 fn put_key(out: &mut Vec<u8>, key: u32) -> Result<(), AllocError>
     ensures { OnOk result (out.new.items ≡ out.old.items ++ op_bytes (delete_image key)) }
 {
-    put_byte(out, 7)?;
+    put_byte(out, tags::DELETE_IMAGE)?;
     put_u32(out, key)
 }
 
 fn put_font(out: &mut Vec<u8>, font: u16) -> Result<(), AllocError>
     ensures { OnOk result (out.new.items ≡ out.old.items ++ op_bytes (delete_font font)) }
 {
-    put_byte(out, 9)?;
+    put_byte(out, tags::DELETE_FONT)?;
     put_u16(out, font)
 }
 
@@ -164,7 +164,7 @@ fn put_op(out: &mut Vec<u8>, op: &Op<'_>) -> Result<(), AllocError>
 {
     match op {
         Op::SetList { epoch, bytes } => put_list(out, *epoch, bytes),
-        Op::RemovePipeline => put_byte(out, 2),
+        Op::RemovePipeline => put_byte(out, tags::REMOVE_PIPELINE),
         Op::Scroll { sid, x, y } => put_scroll(out, *sid, *x, *y),
         Op::SetOffset { id, x, y } => put_offset(out, *id, *x, *y),
         Op::SetOpacity { id, opacity } => put_opacity(out, *id, *opacity),
@@ -196,6 +196,6 @@ fn put_op(out: &mut Vec<u8>, op: &Op<'_>) -> Result<(), AllocError>
         Op::DeleteFont { font } => put_font(out, *font),
         Op::SetView { w, h, clear } => put_view(out, *w, *h, *clear),
         Op::TilePolicy { tw, th, budget } => put_tile_policy(out, *tw, *th, *budget),
-        Op::DropTiles => put_byte(out, 12),
+        Op::DropTiles => put_byte(out, tags::DROP_TILES),
     }
 }
