@@ -2,7 +2,7 @@
 use Rattle.std.proofs.Common.{◌≡◌, ℕ, ap, ◌∙◌, arith}
 use Rattle.std.proofs.Math.Nat.{min-le_left}
 use Rattle.blend_rules.specs.declared.colour.Px.{Px}
-use Rattle.blend_rules.specs.Colour.{IsPixel, clear, scaled, blended, source_over, alpha_sum, mode_value}
+use Rattle.blend_rules.specs.Colour.{HasBytes, IsPixel, clear, scaled, blended, source_over, alpha_sum, mode_value}
 use Rattle.blend_rules.specs.Laws.{ScaledByFull, ScaledByNone, ScaledIsPremultiplied, ScaledIsPixel, BlendIsPremultiplied, BlendIsPixel, ClearSourceLeaves, ClearBackdropShows, OpaqueCovers, NormalNeedsNoLimit}
 use Rattle.blend_rules.proofs.Products.{product-full_right, product-zero_right, product-zero_left, product-le_left, product-mono}
 use Rattle.blend_rules.proofs.Channels.{alpha_sum-clear_source, alpha_sum-clear_backdrop, blended_channel-clear_source, blended_channel-clear_backdrop, blended_channel-opaque, blended_channel-normal, alpha_sum-rest, alpha_sum-opaque, alpha_sum_byte}
@@ -82,3 +82,8 @@ scaled_is_pixel p c k h = record { premultiplied = scaled_is_premultiplied p c h
 
 pub clear_is_pixel : IsPixel clear
 clear_is_pixel = record { premultiplied = record { blue = omega arith; green = omega arith; red = omega arith }; byte = omega arith }
+
+pub pixel_has_bytes : (p : Px) → IsPixel p → HasBytes p
+pixel_has_bytes p h =
+    let q = h.premultiplied in
+    record { blue = omega (arith, q.blue, h.byte); green = omega (arith, q.green, h.byte); red = omega (arith, q.red, h.byte); alpha = h.byte }

@@ -15,6 +15,13 @@ pub record IsPixel (p : Px) : Type 0 where
   pub premultiplied : IsPremultiplied p
   pub byte : p.a < 2 ^ 8
 
+-- all four are bytes
+pub record HasBytes (p : Px) : Type 0 where
+  pub blue : p.b < 2 ^ 8
+  pub green : p.g < 2 ^ 8
+  pub red : p.r < 2 ^ 8
+  pub alpha : p.a < 2 ^ 8
+
 -- whether no colour byte exceeds alpha
 unfoldable pub is_premultiplied : Px → Bool
 is_premultiplied p = nat_le p.b p.a && nat_le p.g p.a && nat_le p.r p.a

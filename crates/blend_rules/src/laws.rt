@@ -1,7 +1,10 @@
+ghost use Rattle.blend_rules.specs.Colour.{HasBytes, IsPremultiplied, IsPixel};
 ghost use Rattle.blend_rules.specs.Laws.{ProductByFull, ProductOfFull, ProductByNone, ProductOfNone, ProductAtMostFirst, ProductAtMostSecond};
 ghost use Rattle.blend_rules.specs.Laws.{ScaledByFull, ScaledByNone, ScaledIsPremultiplied, ScaledIsPixel};
 ghost use Rattle.blend_rules.specs.Laws.{BlendIsPremultiplied, BlendIsPixel, ClearSourceLeaves, ClearBackdropShows, OpaqueCovers, NormalNeedsNoLimit};
 ghost use Rattle.blend_rules.specs.Laws.{PixelsOfTheirBytes, BytesOfTheirPixels};
+
+use super::Px;
 
 /// What holds of every product, for whoever reasons about the definitions. It does nothing.
 pub fn product_laws()
@@ -35,4 +38,11 @@ pub fn blend_laws()
 pub fn pixel_laws()
     ensures pixels { PixelsOfTheirBytes }
     ensures bytes { BytesOfTheirPixels }
+{}
+
+/// What the type of a colour knows of its bytes, for whoever reads one out of memory. It does
+/// nothing.
+pub fn know_bytes(p: Px)
+    ensures bytes { HasBytes p }
+    ensures pixel { IsPremultiplied p → IsPixel p }
 {}

@@ -11,7 +11,7 @@ mod tests;
 mod values;
 
 pub use colour::Px;
-pub use laws::{blend_laws, pixel_laws, product_laws, scale_laws};
+pub use laws::{blend_laws, know_bytes, pixel_laws, product_laws, scale_laws};
 pub use mode::Mode;
 pub use plane::Plane;
 pub use rules::{blend, mul, scale};

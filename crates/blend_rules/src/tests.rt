@@ -61,6 +61,7 @@ fn blends_and_scales(rt: HostRuntime) -> Result<(), Fail> {
     scale_laws();
     blend_laws();
     pixel_laws();
+    know_bytes(half);
     Ok(())
 }
 

@@ -2,6 +2,7 @@
 use Rattle.std.specs.Prelude.{ℕ, ◌+◌, ◌≤◌, Bool, ◌&&◌, ◌==◌, nat_le}
 use Rattle.wr_geom.specs.Bounds.{Bounds}
 pub use Rattle.wr_geom.specs.Bounds.{width_of, height_of}
+use Rattle.wr_geom.specs.declared.limits.TheConstants.{MAX_RADIUS}
 use Rattle.wr_geom.specs.declared.sides.Radii.{Radii}
 use Rattle.wr_geom.specs.declared.sides.Widths.{Widths}
 
@@ -17,24 +18,24 @@ same_corner a b = (a.0 == b.0) && (a.1 == b.1)
 unfoldable pub same_radii : Radii → Radii → Bool
 same_radii a b = same_corner a.tl b.tl && (same_corner a.tr b.tr && (same_corner a.br b.br && same_corner a.bl b.bl))
 
--- neither radius of a corner is greater than 4,096 pixels
+-- neither radius of a corner is greater than `MAX_RADIUS`, 4,096 pixels
 pub record IsSmallCorner (r : ℕ × ℕ) : Type 0 where
-  pub across : r.0 ≤ 4096
-  pub down : r.1 ≤ 4096
+  pub across : r.0 ≤ MAX_RADIUS
+  pub down : r.1 ≤ MAX_RADIUS
 
--- no radius is greater than 4,096 pixels
+-- no radius is greater than `MAX_RADIUS`
 pub record AreSmallRadii (r : Radii) : Type 0 where
   pub tl : IsSmallCorner r.tl
   pub tr : IsSmallCorner r.tr
   pub br : IsSmallCorner r.br
   pub bl : IsSmallCorner r.bl
 
--- no width is greater than 4,096 pixels
+-- no width is greater than `MAX_RADIUS`
 pub record AreSmallWidths (w : Widths) : Type 0 where
-  pub top : w.top ≤ 4096
-  pub right : w.right ≤ 4096
-  pub bottom : w.bottom ≤ 4096
-  pub left : w.left ≤ 4096
+  pub top : w.top ≤ MAX_RADIUS
+  pub right : w.right ≤ MAX_RADIUS
+  pub bottom : w.bottom ≤ MAX_RADIUS
+  pub left : w.left ≤ MAX_RADIUS
 
 -- the two radii along each side are together no longer than it
 pub record RadiiFit (b : Bounds) (r : Radii) : Type 0 where

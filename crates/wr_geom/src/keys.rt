@@ -3,7 +3,7 @@
 pub struct SliceKey {
     /// The pipeline and the scroll number of the scroll frame with which the slice moves, if any.
     pub scroll: Option<(u8, u16)>,
-    /// The number of earlier slices of that scroll frame, or of none.
+    /// Its number, from 0, among the slices with that scroll frame, or among those without one.
     pub nth: u8,
 }
 
