@@ -14,7 +14,8 @@ use Rattle.display_list.specs.declared.node.ChainDef.{ChainDef}
 use Rattle.display_list.specs.declared.token.Token.{Token}
 use Rattle.display_list.specs.declared.token.Token.TheVariants.{Solid, Image, Border, Text, Push, Pop, Iframe, HitArea}
 use Rattle.display_list.specs.declared.token.Push as push
-use Rattle.field_forms.specs.Facts.{IsNear, IsRectangle, IsColour, IsDefined, IsReference, IsOptionalReference, FitsOptional}
+use Rattle.blend_rules.specs.Colour.{IsPixel}
+use Rattle.field_forms.specs.Facts.{IsNear, IsRectangle, IsDefined, IsReference, IsOptionalReference, FitsOptional}
 use Rattle.display_list.specs.ListModel.{ListModel}
 use Rattle.display_list.specs.Levels.{parent_of, share_scroll, levels_of, totals_of, Nests}
 
@@ -95,11 +96,11 @@ pub record IsContext (nodes chains : ℕ) (p : push.Push) : Type 0 where
 
 -- an item's fields, of so many nodes with the root and so many chains
 abbrev pub IsToken : ℕ → ℕ → Token → Type 0
-IsToken nodes chains (Solid spot colour) = IsSpot nodes chains spot × IsColour colour
+IsToken nodes chains (Solid spot colour) = IsSpot nodes chains spot × IsPixel colour
 IsToken nodes chains (Image spot key u v) = IsSpot nodes chains spot × (key < 2 ^ 32) × (u < 2 ^ 16) × (v < 2 ^ 16)
 IsToken nodes chains (Border spot widths top right bottom l radii) =
-    IsSpot nodes chains spot × IsBorder spot.rect widths radii × IsColour top × IsColour right × IsColour bottom × IsColour l
-IsToken nodes chains (Text spot font colour glyphs) = IsSpot nodes chains spot × (font < 2 ^ 16) × IsColour colour × (length glyphs < 2 ^ 16) × All IsGlyph glyphs
+    IsSpot nodes chains spot × IsBorder spot.rect widths radii × IsPixel top × IsPixel right × IsPixel bottom × IsPixel l
+IsToken nodes chains (Text spot font colour glyphs) = IsSpot nodes chains spot × (font < 2 ^ 16) × IsPixel colour × (length glyphs < 2 ^ 16) × All IsGlyph glyphs
 IsToken nodes chains (Push p) = IsContext nodes chains p
 IsToken nodes chains Pop = Unit {0}
 IsToken nodes chains (Iframe spot pipeline) = IsSpot nodes chains spot × (pipeline ≤ 63)

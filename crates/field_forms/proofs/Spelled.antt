@@ -9,13 +9,13 @@ use mir.Val.{SFits}
 use borrow.Author.Gap.{read_sfits}
 use Rattle.std.proofs.Math.Facts.{Fits-of_z}
 use Rattle.std.proofs.lemmas.Nat.{le_bytes_2, le_bytes_4, from_le_bytes-to_le_bytes_2, from_le_bytes-to_le_bytes_4}
-use Rattle.blend_rules.specs.Colour.{is_premultiplied, colour_bytes, colour_from}
+use Rattle.blend_rules.specs.Colour.{HasBytes, IsPixel, is_premultiplied, colour_bytes, colour_from}
 use Rattle.blend_rules.proofs.Premultiplied.{premultiplied-true, premultiplied-of}
 use Rattle.wr_geom.specs.Bounds.{Bounds}
 use Rattle.wr_io.specs.declared.fault.Code.TheVariants as code
 use Rattle.field_forms.specs.Numbers.{byte, number, signed, any_colour}
 use Rattle.field_forms.specs.Fields.{flag, reference, optional_reference, optional_of, optional_number, is_far, coordinate, coordinate_from, rectangle, colour}
-use Rattle.field_forms.specs.Facts.{IsNear, IsRectangle, IsColour, AreChannels, IsReference, IsOptionalReference, FitsOptional}
+use Rattle.field_forms.specs.Facts.{IsNear, IsRectangle, IsReference, IsOptionalReference, FitsOptional}
 use Rattle.field_forms.specs.Spelling.{u16_bytes, u32_bytes, i32_bytes, optional_bytes, flag_bytes, rectangle_bytes}
 use Rattle.field_forms.proofs.Bytes.{byte_at_index}
 use Rattle.field_forms.proofs.Passing.{HasSpelling, with_fact, refuse_if_spelling, refuse_unless_spelling, made_spelling, joined, alone, at_end}
@@ -80,15 +80,15 @@ i32_spelling = record {
       (cast_unsigned w32 z, u32_bytes (cast_unsigned w32 z), [], at_end (u32_bytes (cast_unsigned w32 z)), u32_spelling.passes at (cast_unsigned w32 z) low, (refl, sym (to_z-of_z w32 z h)));
 }
 
-pub any_colour_spelling : HasSpelling any_colour colour_bytes AreChannels
+pub any_colour_spelling : HasSpelling any_colour colour_bytes HasBytes
 unfolding any_colour colour_bytes
 any_colour_spelling = record {
   spelled = λ at bytes p (b, one, two, e, (len, are, same), (z, w)).
       let value : p ≡ colour_from one 0 = w ∙ ap (λ (o : List ℕ). colour_from o 0) same in (
         alone e (four_of one len ∙ ap colour_bytes (sym value)) z,
-        subst AreChannels (sym value) (record { b = byte_at_index one are 0; g = byte_at_index one are 1; r = byte_at_index one are 2; a = byte_at_index one are 3 }),
+        subst HasBytes (sym value) (record { blue = byte_at_index one are 0; green = byte_at_index one are 1; red = byte_at_index one are 2; alpha = byte_at_index one are 3 }),
       );
-  passes = λ at p h. (colour_bytes p, colour_bytes p, [], refl, (omega arith, (h.b, (h.g, (h.r, (h.a, tt)))), refl), (refl, refl));
+  passes = λ at p h. (colour_bytes p, colour_bytes p, [], refl, (omega arith, (h.blue, (h.green, (h.red, (h.alpha, tt)))), refl), (refl, refl));
 }
 
 -- ---- fields
@@ -237,11 +237,11 @@ rectangle_spelling = record {
   );
 }
 
-pub colour_spelling : HasSpelling colour colour_bytes IsColour
+pub colour_spelling : HasSpelling colour colour_bytes IsPixel
 unfolding colour
 colour_spelling =
-    with_fact IsColour (refuse_unless_spelling is_premultiplied code.BadColour any_colour_spelling)
-    (λ p h. record { premultiplied = premultiplied-true p h.1; byte = h.0.a })
+    with_fact IsPixel (refuse_unless_spelling is_premultiplied code.BadColour any_colour_spelling)
+    (λ p h. record { premultiplied = premultiplied-true p h.1; byte = h.0.alpha })
     (λ p h.
     let m = h.premultiplied in
-    (record { b = omega (arith, m.blue, h.byte); g = omega (arith, m.green, h.byte); r = omega (arith, m.red, h.byte); a = h.byte }, premultiplied-of p m))
+    (record { blue = omega (arith, m.blue, h.byte); green = omega (arith, m.green, h.byte); red = omega (arith, m.red, h.byte); alpha = h.byte }, premultiplied-of p m))

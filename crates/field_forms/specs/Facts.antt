@@ -1,7 +1,5 @@
 -- What holds of the values of fields that pass.
 use Rattle.std.specs.Prelude.{ℕ, ℤ, pos, negsuc, ◌<◌, ◌^◌, ◌≤ℤ◌, Option, Some, None}
-use Rattle.blend_rules.specs.declared.colour.Px.{Px}
-use Rattle.blend_rules.specs.Colour.{IsPremultiplied}
 use Rattle.wr_geom.specs.Bounds.{Bounds}
 
 -- within two to the 20th of 0
@@ -22,18 +20,6 @@ pub record IsRectangle (b : Bounds) : Type 0 where
 abbrev pub IsDefined : ℕ → Option ℕ → Type 0
 IsDefined count None = Unit {0}
 IsDefined count (Some n) = n < count
-
--- each channel is a byte
-pub record AreChannels (p : Px) : Type 0 where
-  pub b : p.b < 256
-  pub g : p.g < 256
-  pub r : p.r < 256
-  pub a : p.a < 256
-
--- a premultiplied colour of bytes
-pub record IsColour (p : Px) : Type 0 where
-  pub premultiplied : IsPremultiplied p
-  pub byte : p.a < 256
 
 -- a number that names one of so many, and fits its field of two bytes
 pub record IsReference (count n : ℕ) : Type 0 where

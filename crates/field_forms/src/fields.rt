@@ -5,7 +5,8 @@ ghost use Rattle.wr_geom.specs.Bounds.{IsRect};
 ghost use Rattle.field_forms.specs.Form.{read};
 ghost use Rattle.field_forms.specs.Outcome.{Reads};
 ghost use Rattle.field_forms.specs.Fields.{flag, reference, optional_reference, optional_number, is_far, coordinate, coordinate_from, rectangle, colour};
-ghost use Rattle.field_forms.specs.Facts.{IsNear, IsRectangle, IsDefined, IsColour};
+ghost use Rattle.blend_rules.specs.Colour.{IsPixel};
+ghost use Rattle.field_forms.specs.Facts.{IsNear, IsRectangle, IsDefined};
 
 use crate::errors::fault;
 use crate::limits::{MAX_COORDINATE, NONE};
@@ -122,7 +123,7 @@ impl<'a> Reader<'a> {
     #[tactic(auto, unfolding(crate::specs::Fields::colour))]
     pub fn colour(&mut self) -> Result<Px, DecodeError>
         ensures reads { Reads result self.new (read colour self.old) }
-        ensures colour { IfOk result IsColour }
+        ensures colour { IfOk result IsPixel }
     {
         let at = self.at();
         let colour = self.any_colour()?;

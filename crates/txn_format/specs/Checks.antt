@@ -1,7 +1,8 @@
 -- The checks of a transaction, one by one, in the order of its fields.
 use Rattle.std.specs.Prelude.{◌≡◌, ℕ, ◌+◌, ◌*◌, ◌<◌, ◌≤◌, ◌^◌, List, [], ◌∷◌, length, All}
 use Rattle.field_forms.specs.Form.{AreBytes}
-use Rattle.field_forms.specs.Facts.{IsNear, IsColour}
+use Rattle.blend_rules.specs.Colour.{IsPixel}
+use Rattle.field_forms.specs.Facts.{IsNear}
 use Rattle.txn_format.specs.Txn.{OpModel, PlacedModel, TxnModel, set_list, remove_pipeline, scroll, set_offset, set_opacity, add_image, update_image, delete_image, add_glyph, delete_font, set_view, tile_policy, drop_tiles}
 use Rattle.txn_format.specs.Spelling.{placed_bytes, txn_bytes}
 
@@ -36,7 +37,7 @@ IsOp pipeline (update_image key x y w h pixels) = (key < 2 ^ 32) × (x < 2 ^ 16)
 IsOp pipeline (delete_image key) = key < 2 ^ 32
 IsOp pipeline (add_glyph font glyph w h mask) = (font < 2 ^ 16) × (glyph < 2 ^ 16) × AreTexels w h 1 mask
 IsOp pipeline (delete_font font) = font < 2 ^ 16
-IsOp pipeline (set_view w h clear) = (pipeline ≡ 0) × IsFromTo 1 4096 w × IsFromTo 1 4096 h × IsColour clear
+IsOp pipeline (set_view w h clear) = (pipeline ≡ 0) × IsFromTo 1 4096 w × IsFromTo 1 4096 h × IsPixel clear
 IsOp pipeline (tile_policy tw th budget) = (pipeline ≡ 0) × IsTilePolicy tw th budget
 IsOp pipeline drop_tiles = pipeline ≡ 0
 
