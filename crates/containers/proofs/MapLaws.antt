@@ -1,6 +1,6 @@
 -- Laws of finite maps whose keys are in a total order that tells them apart.
 use Rattle.std.proofs.lemmas.Map.Views.{tells_apart}
-use Rattle.std.proofs.Common.{Option, Bool, true, false, ◌≡◌, ◌≢◌, cond, Some, None, Ordering, refl, sym, ap, subst, ◌∙◌}
+use Rattle.std.proofs.Common.{Bool, true, false, ◌≡◌, ◌≢◌, cond, Some, None, Ordering, refl, sym, ap, ◌∙◌}
 use Rattle.std.specs.Cmp.{IsTotalOrder, tied_itself}
 use Rattle.std.specs.FinMap.{FinMap, IsAntisymmetric, get, insert, remove, get-empty, get-insert, get-remove, same_map}
 use Rattle.std.specs.Ordering.{eq_by_cmp, is_eq}

@@ -1,11 +1,11 @@
 -- A finite map that is made of the entries of a `BTreeMap`.
-use Rattle.std.proofs.Common.{T, ◌≢◌, ℕ, length, subst, arith, Option, MutBor, Bool, true, false, ◌≡◌, ◌&&◌, cond, List, [], ◌∷◌, map, Some, None, Ordering, Less, refl, sym, ap, ◌∙◌}
+use Rattle.std.proofs.Common.{T, length, subst, arith, Option, MutBor, Bool, true, false, ◌≡◌, ◌&&◌, cond, List, [], ◌∷◌, Some, None, Ordering, Less, refl, sym, ap, ◌∙◌}
 use Rattle.std.proofs.lemmas.List.Elements.{recursion_from_All}
 use Rattle.std.proofs.lemmas.Map.Keys.{sorted_tail}
 use Rattle.std.proofs.lemmas.Map.Views.{All-after_first}
 use Rattle.std.specs.BTreeMap.{is_at}
 use Rattle.std.specs.Cmp.{IsTotalOrder, eq_by_cmp_equiv, tied_itself}
-use Rattle.std.specs.FinMap.{FinMap, IsAntisymmetric, find, get, insert, remove, empty, entries, len, len-entries, get-empty, from_entries, from_sorted, is_sorted, entries-from_sorted, get-from_sorted, get-from_entries, get-insert, get-remove, same_map}
+use Rattle.std.specs.FinMap.{IsAntisymmetric, find, get, insert, remove, empty, entries, len, len-entries, get-empty, from_entries, from_sorted, is_sorted, entries-from_sorted, get-from_sorted, get-from_entries, get-insert, get-remove, same_map}
 use Rattle.std.specs.FinMap.Entries.{below_all}
 use Rattle.std.specs.List.{AllByRecursion}
 use Rattle.std.specs.List.Sorted.{IsStrictlySortedBy}

@@ -3,3 +3,4 @@ pub mod OpSpellings
 pub mod TxnSpellings
 pub mod PutOps
 pub mod TxnWithin
+pub mod OpLengths

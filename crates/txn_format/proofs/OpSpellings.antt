@@ -1,22 +1,19 @@
 -- The spelling of each operation, in both directions.
-use Rattle.std.proofs.Common.{◌≡◌, ℕ, ℤ, ◌+◌, ◌*◌, ◌<◌, ◌≤◌, ◌^◌, Bool, true, false, ◌&&◌, eqb, ltb, leb, List, [], ◌∷◌, ◌++◌, length, refl, sym, ap, subst, ◌∙◌, arith, inl, inr}
-use Rattle.std.specs.Int.{w16, w32}
-use Rattle.std.proofs.lemmas.Bool.{eqb-true, ltb-true, ltb-false}
+use Rattle.std.proofs.Common.{◌≡◌, ℕ, ℤ, ◌*◌, ◌<◌, ◌≤◌, ◌^◌, Bool, true, false, ◌&&◌, eqb, ltb, leb, List, [], ◌∷◌, length, refl, sym, ap, subst, ◌∙◌, arith, inl, inr}
+use Rattle.std.proofs.lemmas.Bool.{eqb-true}
 use Rattle.std.proofs.lemmas.Bool.Decides.{nat_tests}
 use Rattle.blend_rules.specs.declared.colour.Px.{Px}
 use Rattle.blend_rules.specs.Colour.{colour_bytes}
 use Rattle.wr_io.specs.declared.fault.Code.{Code}
 use Rattle.wr_io.specs.declared.fault.Code.TheVariants as code
-use Rattle.field_forms.specs.Form.{AreBytes, Form, piece, Passes}
-use Rattle.field_forms.specs.Numbers.{number}
-use Rattle.field_forms.specs.Facts.{IsNear, IsColour}
-use Rattle.field_forms.specs.Spelling.{u16_bytes, u32_bytes, i32_bytes, flag_bytes}
-use Rattle.field_forms.proofs.Passing.{HasSpelling, with_fact, refuse_if_spelling, refuse_unless_spelling, either, by_true, skipped, joined, alone, at_end}
+use Rattle.field_forms.specs.Form.{AreBytes, piece, Passes}
+use Rattle.field_forms.specs.Spelling.{u16_bytes, u32_bytes, i32_bytes}
+use Rattle.field_forms.proofs.Passing.{HasSpelling, with_fact, refuse_if_spelling, refuse_unless_spelling, either, by_true, joined, alone, at_end}
 use Rattle.field_forms.proofs.Spelled.{byte_spelling, u16_spelling, u32_spelling, coordinate_spelling, flag_spelling, colour_spelling}
 use Rattle.txn_format.specs.Txn.{OpModel, set_list, remove_pipeline, scroll, set_offset, set_opacity, add_image, update_image, delete_image, add_glyph, delete_font, set_view, tile_policy, drop_tiles}
-use Rattle.txn_format.specs.Forms.{is_between, u16_between, property_id, set_list_form, scroll_form, set_offset_form, set_opacity_form, set_property_form, image_side, add_image_form, update_image_form, delete_image_form, add_glyph_form, delete_font_form, view_side, set_view_form, tile_side, tile_budget, tile_policy_form, scene_op_form, resource_op_form, root_op_form, op_form}
+use Rattle.txn_format.specs.Forms.{is_from_to, u16_between, property_id, set_list_form, scroll_form, set_offset_form, set_opacity_form, set_property_form, image_side, add_image_form, update_image_form, delete_image_form, add_glyph_form, delete_font_form, view_side, set_view_form, tile_side, tile_budget, tile_policy_form, scene_op_form, resource_op_form, root_op_form, op_form}
 use Rattle.txn_format.specs.Spelling.{op_tag, op_fields}
-use Rattle.txn_format.specs.Checks.{IsBetween, AreTexels, IsTilePolicy, IsOp}
+use Rattle.txn_format.specs.Checks.{IsFromTo, IsOp}
 
 -- ---- fields
 
@@ -30,30 +27,30 @@ at_most a b e = grind (arith, nat_tests)
 at_most_test : (a b : ℕ) → a ≤ b → leb a b ≡ true
 at_most_test a b h = grind (arith, nat_tests)
 
-between_so : (low high n : ℕ) → is_between low high n ≡ true → IsBetween low high n
-unfolding is_between
+between_so : (low high n : ℕ) → is_from_to low high n ≡ true → IsFromTo low high n
+unfolding is_from_to
 between_so low high n e = let p = both_true (leb low n) (leb n high) e in record { at_least = at_most low n p.0; at_most = at_most n high p.1 }
 
-between_test : (low high n : ℕ) → IsBetween low high n → is_between low high n ≡ true
-unfolding is_between
+between_test : (low high n : ℕ) → IsFromTo low high n → is_from_to low high n ≡ true
+unfolding is_from_to
 between_test low high n h = λ i. at_most_test low n h.at_least i && at_most_test n high h.at_most i
 
-u16_between_spelling : (low high : ℕ) (c : Code) → high < 2 ^ 16 → HasSpelling (u16_between low high c) u16_bytes (IsBetween low high)
+u16_between_spelling : (low high : ℕ) (c : Code) → high < 2 ^ 16 → HasSpelling (u16_between low high c) u16_bytes (IsFromTo low high)
 unfolding u16_between
 u16_between_spelling low high c fits =
-    with_fact (IsBetween low high) (refuse_unless_spelling (is_between low high) c u16_spelling)
+    with_fact (IsFromTo low high) (refuse_unless_spelling (is_from_to low high) c u16_spelling)
     (λ n h. between_so low high n h.1)
     (λ n h. let k = h.at_most in (omega arith, between_test low high n h))
 
-image_side_spelling : HasSpelling image_side u16_bytes (IsBetween 1 4096)
+image_side_spelling : HasSpelling image_side u16_bytes (IsFromTo 1 4096)
 unfolding image_side
 image_side_spelling = u16_between_spelling 1 4096 code.Limit (omega arith)
 
-view_side_spelling : HasSpelling view_side u16_bytes (IsBetween 1 4096)
+view_side_spelling : HasSpelling view_side u16_bytes (IsFromTo 1 4096)
 unfolding view_side
 view_side_spelling = u16_between_spelling 1 4096 code.BadNumber (omega arith)
 
-tile_side_spelling : HasSpelling tile_side u16_bytes (IsBetween 64 1024)
+tile_side_spelling : HasSpelling tile_side u16_bytes (IsFromTo 64 1024)
 unfolding tile_side
 tile_side_spelling = u16_between_spelling 64 1024 code.BadNumber (omega arith)
 
@@ -69,11 +66,11 @@ property_id_spelling =
     with_fact (λ n. n < 65535) (refuse_if_spelling (λ n. eqb n 65535) code.BadNumber u16_spelling)
     (λ n h. is_some_id n h.0 h.1) (λ n h. (omega arith, some_id_test n h))
 
-tile_budget_spelling : (tw th : ℕ) → HasSpelling (tile_budget tw th) u32_bytes (λ n. IsBetween 1 65536 n × (tw * th * n ≤ 2 ^ 28))
+tile_budget_spelling : (tw th : ℕ) → HasSpelling (tile_budget tw th) u32_bytes (λ n. IsFromTo 1 65536 n × (tw * th * n ≤ 2 ^ 28))
 unfolding tile_budget
 tile_budget_spelling tw th =
-    with_fact (λ n. IsBetween 1 65536 n × (tw * th * n ≤ 2 ^ 28))
-    (refuse_unless_spelling (λ n. leb (tw * th * n) (2 ^ 28)) code.Limit (refuse_unless_spelling (is_between 1 65536) code.BadNumber u32_spelling))
+    with_fact (λ n. IsFromTo 1 65536 n × (tw * th * n ≤ 2 ^ 28))
+    (refuse_unless_spelling (λ n. leb (tw * th * n) (2 ^ 28)) code.Limit (refuse_unless_spelling (is_from_to 1 65536) code.BadNumber u32_spelling))
     (λ n h. (between_so 1 65536 n h.0.1, at_most (tw * th * n) (2 ^ 28) h.1))
     (λ n h. let k = h.0.at_most in ((omega arith, between_test 1 65536 n h.0), at_most_test (tw * th * n) (2 ^ 28) h.1))
 

@@ -3,25 +3,26 @@ use Rattle.std.specs.Prelude.{ℕ, ◌*◌, ◌^◌, Bool, ◌&&◌, nat_lt, nat
 use Rattle.std.specs.Int.{w16, w32}
 use Rattle.wr_io.specs.declared.fault.Code.{Code}
 use Rattle.wr_io.specs.declared.fault.Code.TheVariants as code
-use Rattle.field_forms.specs.Form.{Form, done, here, piece, refuse, choose, bind, ◌>>=◌}
+use Rattle.field_forms.specs.Form.{Form, done, here, piece, refuse, choose, ◌>>=◌}
 use Rattle.field_forms.specs.Numbers.{byte, number}
 use Rattle.field_forms.specs.Fields.{refuse_if, refuse_unless, times, flag, coordinate, colour}
 use Rattle.txn_format.specs.Txn.{OpModel, PlacedModel, TxnModel, set_list, remove_pipeline, scroll, set_offset, set_opacity, add_image, update_image, delete_image, add_glyph, delete_font, set_view, tile_policy, drop_tiles}
 
 -- whether a number is one of those from low to high
-unfoldable pub is_between : ℕ → ℕ → ℕ → Bool
-is_between low high n = nat_le low n && nat_le n high
+unfoldable pub is_from_to : ℕ → ℕ → ℕ → Bool
+is_from_to low high n = nat_le low n && nat_le n high
 
 -- a number of two bytes from low to high
 unfoldable pub u16_between : ℕ → ℕ → Code → Form ℕ
-u16_between low high c = refuse_unless (is_between low high) c (number w16)
+u16_between low high c = refuse_unless (is_from_to low high) c (number w16)
 
 -- a property's id; 65535 is none
 unfoldable pub property_id : Form ℕ
 property_id = refuse_if (λ n. n == 65535) code.BadNumber (number w16)
 
--- ---- the fields behind an operation's tag
+-- ---- the fields after an operation's tag
 
+-- an epoch, and a list as one field
 unfoldable pub set_list_form : Form OpModel
 set_list_form = do
   epoch ← number w32
@@ -29,6 +30,7 @@ set_list_form = do
   bytes ← piece len
   done (set_list epoch bytes)
 
+-- a scroll number and a position
 unfoldable pub scroll_form : Form OpModel
 scroll_form = do
   sid ← number w16
@@ -36,12 +38,14 @@ scroll_form = do
   y ← coordinate
   done (scroll sid x y)
 
+-- the value of a property that is an offset
 unfoldable pub set_offset_form : ℕ → Form OpModel
 set_offset_form id = do
   x ← coordinate
   y ← coordinate
   done (set_offset id x y)
 
+-- the value of a property that is an opacity
 unfoldable pub set_opacity_form : ℕ → Form OpModel
 set_opacity_form id = do
   opacity ← byte
@@ -58,6 +62,7 @@ set_property_form = do
 unfoldable pub image_side : Form ℕ
 image_side = u16_between 1 4096 code.Limit
 
+-- an image, four bytes a texel
 unfoldable pub add_image_form : Form OpModel
 add_image_form = do
   key ← number w32
@@ -66,6 +71,7 @@ add_image_form = do
   pixels ← piece (4 * (w * h))
   done (add_image key w h pixels)
 
+-- a rectangle of texels of an image
 unfoldable pub update_image_form : Form OpModel
 update_image_form = do
   key ← number w32
@@ -76,11 +82,13 @@ update_image_form = do
   pixels ← piece (4 * (w * h))
   done (update_image key x y w h pixels)
 
+-- an image's key
 unfoldable pub delete_image_form : Form OpModel
 delete_image_form = do
   key ← number w32
   done (delete_image key)
 
+-- a glyph's mask, a byte a texel
 unfoldable pub add_glyph_form : Form OpModel
 add_glyph_form = do
   font ← number w16
@@ -90,6 +98,7 @@ add_glyph_form = do
   mask ← piece (w * h)
   done (add_glyph font glyph w h mask)
 
+-- a font
 unfoldable pub delete_font_form : Form OpModel
 delete_font_form = do
   font ← number w16
@@ -99,6 +108,7 @@ delete_font_form = do
 unfoldable pub view_side : Form ℕ
 view_side = u16_between 1 4096 code.BadNumber
 
+-- the view's sides and the colour behind all
 unfoldable pub set_view_form : Form OpModel
 set_view_form = do
   w ← view_side
@@ -114,8 +124,9 @@ tile_side = u16_between 64 1024 code.BadNumber
 unfoldable pub tile_budget : ℕ → ℕ → Form ℕ
 tile_budget tw th =
     refuse_unless (λ budget. nat_le (tw * th * budget) (2 ^ 28)) code.Limit
-    (refuse_unless (is_between 1 65536) code.BadNumber (number w32))
+    (refuse_unless (is_from_to 1 65536) code.BadNumber (number w32))
 
+-- a tile's sides and how many tiles are kept
 unfoldable pub tile_policy_form : Form OpModel
 tile_policy_form = do
   tw ← tile_side
@@ -149,6 +160,7 @@ root_op_form pipeline at tag =
     (choose (tag == 10) set_view_form (choose (tag == 11) tile_policy_form (done drop_tiles)))
     (refuse code.NotRoot at))
 
+-- by the tag
 unfoldable pub op_form : ℕ → ℕ → ℕ → Form OpModel
 op_form pipeline at tag =
     choose (nat_le tag 4) (scene_op_form at tag) (choose (nat_le tag 9) (resource_op_form tag) (root_op_form pipeline at tag))
@@ -167,6 +179,7 @@ placed_form pipeline = do
 unfoldable pub pipeline_form : Form ℕ
 pipeline_form = refuse_if (nat_lt 63) code.BadNumber byte
 
+-- the head, so many operations, and the position where they end
 unfoldable pub txn_form : Form TxnModel
 txn_form = do
   pipeline ← pipeline_form

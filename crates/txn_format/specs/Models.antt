@@ -6,6 +6,7 @@ use Rattle.txn_format.specs.declared.op.Placed.{Placed}
 use Rattle.txn_format.specs.declared.txn.Fields.{Fields}
 use Rattle.txn_format.specs.Txn.{OpModel, PlacedModel, TxnModel, set_list, remove_pipeline, scroll, set_offset, set_opacity, add_image, update_image, delete_image, add_glyph, delete_font, set_view, tile_policy, drop_tiles}
 
+-- what a contract sees of an operation
 abbrev pub op_model : Op → OpModel
 op_model (op.SetList epoch bytes) = set_list epoch bytes.now
 op_model op.RemovePipeline = remove_pipeline
@@ -21,11 +22,14 @@ op_model (op.SetView w h clear) = set_view w h clear
 op_model (op.TilePolicy tw th budget) = tile_policy tw th budget
 op_model op.DropTiles = drop_tiles
 
+-- of an operation with its position
 abbrev pub placed_model : Placed → PlacedModel
 placed_model p = record { at = p.at; op = op_model p.op }
 
+-- of operations in order
 abbrev pub placed_models : List Placed → List PlacedModel
 placed_models = map placed_model
 
+-- of a transaction's fields
 abbrev pub txn_model : Fields → TxnModel
 txn_model f = record { pipeline = f.pipeline; frame = f.frame; len = f.len; ops = placed_models f.ops.items }

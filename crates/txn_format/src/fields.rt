@@ -12,7 +12,7 @@ use field_forms::{NONE, Reader, fault};
 use wr_io::{Code, DecodeError};
 
 /// A number of two bytes from `low` to `high`, else it is refused with the code.
-#[tactic(auto, unfolding(crate::specs::Forms::u16_between, crate::specs::Forms::is_between))]
+#[tactic(auto, unfolding(crate::specs::Forms::u16_between, crate::specs::Forms::is_from_to))]
 fn u16_between(reader: &mut Reader<'_>, low: u16, high: u16, code: Code) -> Result<u16, DecodeError>
     ensures reads { Reads result reader.new (read (u16_between low high code) reader.old) }
     ensures at_most { IfOk result (λ n. n ≤ high) }
@@ -25,6 +25,7 @@ fn u16_between(reader: &mut Reader<'_>, low: u16, high: u16, code: Code) -> Resu
     Err(fault(code, at))
 }
 
+/// A property's id, which isn't 65535.
 #[tactic(auto, unfolding(crate::specs::Forms::property_id))]
 fn property_id(reader: &mut Reader<'_>) -> Result<u16, DecodeError>
     ensures { Reads result reader.new (read property_id reader.old) }
@@ -37,6 +38,7 @@ fn property_id(reader: &mut Reader<'_>) -> Result<u16, DecodeError>
     Ok(id)
 }
 
+/// An epoch and a list, which is borrowed.
 #[tactic(auto, unfolding(crate::specs::Forms::set_list_form))]
 pub fn set_list<'a>(reader: &mut Reader<'a>) -> Result<Op<'a>, DecodeError>
     ensures { ReadsBy op_model result reader.new (read set_list_form reader.old) }
@@ -47,6 +49,7 @@ pub fn set_list<'a>(reader: &mut Reader<'a>) -> Result<Op<'a>, DecodeError>
     Ok(Op::SetList { epoch, bytes })
 }
 
+/// A scroll number and a position.
 #[tactic(auto, unfolding(crate::specs::Forms::scroll_form))]
 pub fn scroll<'a>(reader: &mut Reader<'a>) -> Result<Op<'a>, DecodeError>
     ensures { ReadsBy op_model result reader.new (read scroll_form reader.old) }
@@ -57,6 +60,7 @@ pub fn scroll<'a>(reader: &mut Reader<'a>) -> Result<Op<'a>, DecodeError>
     Ok(Op::Scroll { sid, x, y })
 }
 
+/// The value of a property that is an offset.
 #[tactic(auto, unfolding(crate::specs::Forms::set_offset_form))]
 fn set_offset<'a>(reader: &mut Reader<'a>, id: u16) -> Result<Op<'a>, DecodeError>
     ensures { ReadsBy op_model result reader.new (read (set_offset_form id) reader.old) }
@@ -66,6 +70,7 @@ fn set_offset<'a>(reader: &mut Reader<'a>, id: u16) -> Result<Op<'a>, DecodeErro
     Ok(Op::SetOffset { id, x, y })
 }
 
+/// The value of a property that is an opacity.
 #[tactic(auto, unfolding(crate::specs::Forms::set_opacity_form))]
 fn set_opacity<'a>(reader: &mut Reader<'a>, id: u16) -> Result<Op<'a>, DecodeError>
     ensures { ReadsBy op_model result reader.new (read (set_opacity_form id) reader.old) }
@@ -74,6 +79,7 @@ fn set_opacity<'a>(reader: &mut Reader<'a>, id: u16) -> Result<Op<'a>, DecodeErr
     Ok(Op::SetOpacity { id, opacity })
 }
 
+/// A property's kind, its id and its value.
 #[tactic(auto, unfolding(crate::specs::Forms::set_property_form))]
 pub fn set_property<'a>(reader: &mut Reader<'a>) -> Result<Op<'a>, DecodeError>
     ensures { ReadsBy op_model result reader.new (read set_property_form reader.old) }
@@ -86,6 +92,7 @@ pub fn set_property<'a>(reader: &mut Reader<'a>) -> Result<Op<'a>, DecodeError>
     set_offset(reader, id)
 }
 
+/// A side of an image or a glyph, else it is beyond a limit.
 #[tactic(auto, unfolding(crate::specs::Forms::image_side))]
 fn image_side(reader: &mut Reader<'_>) -> Result<u16, DecodeError>
     ensures reads { Reads result reader.new (read image_side reader.old) }
@@ -103,6 +110,7 @@ fn texels<'a>(reader: &mut Reader<'a>, w: u16, h: u16) -> Result<&'a [u8], Decod
     reader.bytes(4 * (w as usize * h as usize))
 }
 
+/// An image, whose texels are borrowed.
 #[tactic(auto, unfolding(crate::specs::Forms::add_image_form))]
 pub fn add_image<'a>(reader: &mut Reader<'a>) -> Result<Op<'a>, DecodeError>
     ensures { ReadsBy op_model result reader.new (read add_image_form reader.old) }
@@ -114,6 +122,7 @@ pub fn add_image<'a>(reader: &mut Reader<'a>) -> Result<Op<'a>, DecodeError>
     Ok(Op::AddImage { key, w, h, pixels })
 }
 
+/// A rectangle of an image, whose texels are borrowed.
 #[tactic(auto, unfolding(crate::specs::Forms::update_image_form))]
 pub fn update_image<'a>(reader: &mut Reader<'a>) -> Result<Op<'a>, DecodeError>
     ensures { ReadsBy op_model result reader.new (read update_image_form reader.old) }
@@ -134,6 +143,7 @@ pub fn update_image<'a>(reader: &mut Reader<'a>) -> Result<Op<'a>, DecodeError>
     })
 }
 
+/// An image's key.
 #[tactic(auto, unfolding(crate::specs::Forms::delete_image_form))]
 pub fn delete_image<'a>(reader: &mut Reader<'a>) -> Result<Op<'a>, DecodeError>
     ensures { ReadsBy op_model result reader.new (read delete_image_form reader.old) }
@@ -142,6 +152,7 @@ pub fn delete_image<'a>(reader: &mut Reader<'a>) -> Result<Op<'a>, DecodeError>
     Ok(Op::DeleteImage { key })
 }
 
+/// A glyph, whose mask is borrowed.
 #[tactic(auto, unfolding(crate::specs::Forms::add_glyph_form))]
 pub fn add_glyph<'a>(reader: &mut Reader<'a>) -> Result<Op<'a>, DecodeError>
     ensures { ReadsBy op_model result reader.new (read add_glyph_form reader.old) }
@@ -160,6 +171,7 @@ pub fn add_glyph<'a>(reader: &mut Reader<'a>) -> Result<Op<'a>, DecodeError>
     })
 }
 
+/// A font.
 #[tactic(auto, unfolding(crate::specs::Forms::delete_font_form))]
 pub fn delete_font<'a>(reader: &mut Reader<'a>) -> Result<Op<'a>, DecodeError>
     ensures { ReadsBy op_model result reader.new (read delete_font_form reader.old) }
@@ -168,6 +180,7 @@ pub fn delete_font<'a>(reader: &mut Reader<'a>) -> Result<Op<'a>, DecodeError>
     Ok(Op::DeleteFont { font })
 }
 
+/// A side of the view.
 #[tactic(auto, unfolding(crate::specs::Forms::view_side))]
 fn view_side(reader: &mut Reader<'_>) -> Result<u16, DecodeError>
     ensures { Reads result reader.new (read view_side reader.old) }
@@ -175,6 +188,7 @@ fn view_side(reader: &mut Reader<'_>) -> Result<u16, DecodeError>
     u16_between(reader, 1, MAX_SIDE, Code::BadNumber)
 }
 
+/// The view's sides and the colour behind all.
 #[tactic(auto, unfolding(crate::specs::Forms::set_view_form))]
 pub fn set_view<'a>(reader: &mut Reader<'a>) -> Result<Op<'a>, DecodeError>
     ensures { ReadsBy op_model result reader.new (read set_view_form reader.old) }
@@ -185,6 +199,7 @@ pub fn set_view<'a>(reader: &mut Reader<'a>) -> Result<Op<'a>, DecodeError>
     Ok(Op::SetView { w, h, clear })
 }
 
+/// A side of a tile.
 #[tactic(auto, unfolding(crate::specs::Forms::tile_side))]
 fn tile_side(reader: &mut Reader<'_>) -> Result<u16, DecodeError>
     ensures reads { Reads result reader.new (read tile_side reader.old) }
@@ -193,7 +208,8 @@ fn tile_side(reader: &mut Reader<'_>) -> Result<u16, DecodeError>
     u16_between(reader, MIN_TILE_SIDE, MAX_TILE_SIDE, Code::BadNumber)
 }
 
-#[tactic(auto, unfolding(crate::specs::Forms::tile_budget, crate::specs::Forms::is_between))]
+/// How many tiles are kept, of few enough pixels in all.
+#[tactic(auto, unfolding(crate::specs::Forms::tile_budget, crate::specs::Forms::is_from_to))]
 fn tile_budget(reader: &mut Reader<'_>, tw: u16, th: u16) -> Result<u32, DecodeError>
     requires width { tw ≤ 1024 }
     requires height { th ≤ 1024 }
@@ -210,6 +226,7 @@ fn tile_budget(reader: &mut Reader<'_>, tw: u16, th: u16) -> Result<u32, DecodeE
     Err(fault(Code::Limit, at))
 }
 
+/// A tile's sides and how many tiles are kept.
 #[tactic(auto, unfolding(crate::specs::Forms::tile_policy_form))]
 pub fn tile_policy<'a>(reader: &mut Reader<'a>) -> Result<Op<'a>, DecodeError>
     ensures { ReadsBy op_model result reader.new (read tile_policy_form reader.old) }

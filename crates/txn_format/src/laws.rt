@@ -8,8 +8,7 @@ pub fn txn_spelling_laws()
     ensures spelling { SpellingIsTxn }
     ensures one_txn { OneTxn }
     ensures none_begins { NoTxnBegins }
-{
-}
+{}
 
 /// A payload has one first fault at most, and none where it spells a transaction. It stands in the payload
 /// or just after it.
@@ -17,8 +16,7 @@ pub fn txn_fault_laws()
     ensures one_fault { OneTxnFault }
     ensures no_fault { TxnsHaveNoFault }
     ensures within { TxnFaultsAreWithin }
-{
-}
+{}
 
 /// What reading from left to right gives is what the grammar says.
 pub fn txn_reading_laws()
@@ -26,5 +24,4 @@ pub fn txn_reading_laws()
     ensures again { SpelledTxnIsRead }
     ensures fault { ReadTxnFaultIsFirst }
     ensures first { FirstTxnFaultIsRead }
-{
-}
+{}

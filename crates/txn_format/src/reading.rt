@@ -71,6 +71,7 @@ fn root_op<'a>(
     }
 }
 
+/// An operation by its tag, which stands at position `at`.
 #[tactic(auto, unfolding(crate::specs::Forms::op_form))]
 fn op<'a>(reader: &mut Reader<'a>, pipeline: u8, at: u32, tag: u8) -> Result<Op<'a>, DecodeError>
     ensures { ReadsBy op_model result reader.new (read (op_form pipeline at tag) reader.old) }
@@ -84,6 +85,7 @@ fn op<'a>(reader: &mut Reader<'a>, pipeline: u8, at: u32, tag: u8) -> Result<Op<
     root_op(reader, pipeline, at, tag)
 }
 
+/// An operation with its tag.
 #[tactic(auto, unfolding(crate::specs::Forms::placed_form))]
 fn placed<'a>(reader: &mut Reader<'a>, pipeline: u8) -> Result<Placed<'a>, DecodeError>
     ensures { ReadsBy placed_model result reader.new (read (placed_form pipeline) reader.old) }
@@ -110,6 +112,7 @@ fn operations<'a>(
     Ok(found)
 }
 
+/// A pipeline's number, at most 63.
 #[tactic(auto, unfolding(crate::specs::Forms::pipeline_form))]
 fn pipeline_number(reader: &mut Reader<'_>) -> Result<u8, DecodeError>
     ensures { Reads result reader.new (read pipeline_form reader.old) }
@@ -122,6 +125,7 @@ fn pipeline_number(reader: &mut Reader<'_>) -> Result<u8, DecodeError>
     Ok(n)
 }
 
+/// The fields of a transaction, whatever follows them.
 #[tactic(auto, unfolding(crate::specs::Forms::txn_form))]
 fn fields<'a>(alloc: Global, reader: &mut Reader<'a>) -> Result<Fields<'a>, DecodeError>
     ensures { ReadsBy txn_model result reader.new (read txn_form reader.old) }
@@ -139,6 +143,7 @@ fn fields<'a>(alloc: Global, reader: &mut Reader<'a>) -> Result<Fields<'a>, Deco
     })
 }
 
+/// The transaction of the whole payload.
 fn read<'a>(alloc: Global, payload: &'a [u8]) -> Result<Txn<'a>, DecodeError>
     requires { length payload.now ≤ 2 ^ 26 }
     ensures { Gives result (txn_at payload.now) }

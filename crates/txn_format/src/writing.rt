@@ -28,6 +28,7 @@ pub fn write_txn(alloc: Global, txn: &Txn<'_>) -> Result<Vec<u8>, NoMemory>
     Ok(out)
 }
 
+/// Appends operations.
 fn put_ops(out: &mut Vec<u8>, ops: &[Placed<'_>]) -> Result<(), AllocError>
     requires { All FitsLength (placed_models ops.now) }
     ensures { OnOk result (out.new.items ≡ out.old.items ++ flat_map placed_bytes (placed_models ops.now)) }
@@ -156,6 +157,7 @@ fn put_font(out: &mut Vec<u8>, font: u16) -> Result<(), AllocError>
     put_u16(out, font)
 }
 
+/// Appends an operation.
 fn put_op(out: &mut Vec<u8>, op: &Op<'_>) -> Result<(), AllocError>
     requires { HasFittingLength (op_model op.now) }
     ensures { OnOk result (out.new.items ≡ out.old.items ++ op_bytes (op_model op.now)) }

@@ -1,4 +1,4 @@
-use Rattle.std.proofs.Common.{◌≡◌, Ok, arith, ap, sym, ◌∙◌}
+use Rattle.std.proofs.Common.{arith, ap, sym, ◌∙◌}
 use Rattle.wr_io.specs.Unread.{Unread}
 use Rattle.field_forms.specs.Form.{read}
 use Rattle.field_forms.proofs.Bytes.{are_bytes}

@@ -1,6 +1,6 @@
 use Rattle.std.proofs.Common.{◌∙◌, sym, ap, is_some}
 use Rattle.containers.specs.PairOrder.{pair_cmp}
-use Rattle.containers.proofs.PairOrderLaws.{pair_cmp_total, pair_cmp-IsAntisymmetric}
+use Rattle.containers.proofs.PairOrderLaws.{pair_cmp_total}
 use Rattle.std.specs.FinMap as map
 use Rattle.containers.proofs.MapViews.{get_is}
 use Rattle.containers.proofs.pair_map.PairMap.contains.Goals as goal

@@ -1,6 +1,6 @@
 use Rattle.std.proofs.Common.{◌∙◌, sym}
 use Rattle.containers.specs.PairOrder.{pair_cmp}
-use Rattle.containers.proofs.PairOrderLaws.{pair_cmp_total, pair_cmp-IsAntisymmetric}
+use Rattle.containers.proofs.PairOrderLaws.{pair_cmp_total}
 use Rattle.containers.proofs.MapViews.{empty_where_none, none_where_empty}
 use Rattle.containers.proofs.pair_map.PairMap.is_empty.Goals as goal
 
