@@ -1,5 +1,5 @@
-pub mod Reading
 pub mod Members
+pub mod Operations
 pub mod Blocks
 pub mod Frames
 pub mod Statuses
