@@ -4,3 +4,4 @@ pub mod Blocks
 pub mod Frames
 pub mod Statuses
 pub mod Replays
+pub mod Refusals

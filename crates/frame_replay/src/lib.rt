@@ -11,7 +11,7 @@ mod resolve;
 mod scene;
 mod status;
 
-pub use laws::replay_laws;
+pub use laws::{refusal_laws, replay_laws};
 pub use limits::MAX_SOLIDS;
 pub use program::{Command, run};
 pub use scene::{Operation, Scene, Solid, SolidList, View};
