@@ -1,10 +1,7 @@
 pub mod Models
 pub mod Scene
-pub mod Transaction
 pub mod Resolve
-pub mod Refusals
 pub mod Painting
-pub mod Blocks
 pub mod Output
 pub mod Outcome
 pub mod Commands

@@ -3,7 +3,7 @@ use Rattle.std.specs.Prelude.{ℕ, ◌<◌, ◌≤◌, List}
 use Rattle.blend_rules.specs.declared.colour.Px.{Px}
 use Rattle.blend_rules.specs.Colour.{IsPremultiplied}
 use Rattle.wr_geom.specs.Bounds.{Bounds}
-use Rattle.frame_replay.specs.declared.limits.TheConstants.{MAX_SIDE}
+use Rattle.txn_format.specs.declared.limits.TheConstants.{MAX_SIDE}
 
 -- a view: its sides in pixels, and the colour behind all
 pub record ViewModel : Type 0 where
@@ -28,9 +28,3 @@ pub record SolidModel : Type 0 where
 pub record SolidListModel : Type 0 where
   pub epoch : ℕ
   pub solids : List SolidModel
-
--- a list as it was sent: its epoch, the position of its first byte in the payload, and its bytes
-pub record RawListModel : Type 0 where
-  pub epoch : ℕ
-  pub at : ℕ
-  pub bytes : List ℕ

@@ -1,7 +1,8 @@
 -- The record that answers a transaction, and what `replay` writes.
 use Rattle.std.specs.Prelude.{ℕ, List, [], ◌∷◌, ◌++◌, codes, Option, Some, None, Result, Ok, Err, if◌then◌else◌}
 use Rattle.std.specs.List.{flat_map}
-use Rattle.std.specs.Int.{w16, w32, to_le_bytes}
+use Rattle.blend_rules.specs.Colour.{colour_bytes}
+use Rattle.field_forms.specs.Spelling.{u16_bytes, u32_bytes}
 use Rattle.wr_io.specs.Codes.{code_number}
 use Rattle.wr_io.specs.declared.fault.Code.{Code}
 use Rattle.wr_io.specs.declared.fault.Fault.{Fault}
@@ -9,24 +10,23 @@ use Rattle.record_frame.specs.Transactions.{transactions}
 use Rattle.record_frame.specs.Answers.{AnswerRule, Output, output_from}
 use Rattle.frame_replay.specs.Models.{SolidListModel}
 use Rattle.frame_replay.specs.Scene.{start_scene, after_all}
-use Rattle.frame_replay.specs.Transaction.{raw_transaction_of}
-use Rattle.frame_replay.specs.Resolve.{TransactionModel, resolve}
-use Rattle.frame_replay.specs.Painting.{row_by_row, pixel_at, colour_bytes}
+use Rattle.frame_replay.specs.Resolve.{TransactionModel, resolve_payload}
+use Rattle.frame_replay.specs.Painting.{row_by_row, pixel_at}
 use Rattle.frame_replay.specs.declared.scene.Scene.{Scene}
 
 -- the record of a refusal, with its code and its position
 abbrev pub refusal_record : Code → ℕ → List ℕ
-refusal_record code at = 88 ∷ (code_number code ∷ to_le_bytes w32 at)
+refusal_record code at = 88 ∷ (code_number code ∷ u32_bytes at)
 
 -- how many lists are drawn, and the pipeline and epoch of each
 abbrev pub drawn_lists : Option SolidListModel → List ℕ
 drawn_lists None = 0 ∷ []
-drawn_lists (Some list) = 1 ∷ (0 ∷ to_le_bytes w32 list.epoch)
+drawn_lists (Some list) = 1 ∷ (0 ∷ u32_bytes list.epoch)
 
 -- the record of a frame: the view's sides, the lists that are drawn, and the pixels
 unfoldable pub frame_record : Scene → List ℕ
 frame_record scene =
-    70 ∷ (to_le_bytes w16 scene.view.width ++ (to_le_bytes w16 scene.view.height ++ (drawn_lists scene.list
+    70 ∷ (u16_bytes scene.view.width ++ (u16_bytes scene.view.height ++ (drawn_lists scene.list
     ++ flat_map colour_bytes (row_by_row scene.view.width scene.view.height (pixel_at scene)))))
 
 -- the record of a transaction: a refusal, a frame where one is asked for, or else that it is accepted
@@ -40,10 +40,10 @@ scene_for (Err fault) scene = scene
 scene_for (Ok t) scene = after_all t.operations scene
 
 abbrev pub record_of : List ℕ → Scene → List ℕ
-record_of payload scene = record_for (resolve (raw_transaction_of payload)) scene
+record_of payload scene = record_for (resolve_payload payload) scene
 
 abbrev pub next_scene : List ℕ → Scene → Scene
-next_scene payload scene = scene_for (resolve (raw_transaction_of payload)) scene
+next_scene payload scene = scene_for (resolve_payload payload) scene
 
 -- how payloads are answered by frames: none is refused with a status of its own
 abbrev pub replaying : AnswerRule (List ℕ) Scene

@@ -1,25 +1,34 @@
 -- A transaction with its lists decoded; the lists that are built today are plain solids.
-use Rattle.std.specs.Prelude.{ℕ, ◌+◌, List, [], ◌∷◌, length, Bool, true, false, ◌&&◌, Option, Some, None, Result, Ok, Err, nat_le, ◌==◌, if◌then◌else◌}
+use Rattle.std.specs.Prelude.{◌≡◌, ℕ, ◌+◌, List, [], ◌∷◌, length, Bool, true, false, ◌&&◌, Option, Some, None, Result, Ok, Err, nat_le, ◌==◌, if◌then◌else◌}
 use Rattle.blend_rules.specs.declared.colour.Px.{Px}
+use Rattle.blend_rules.specs.Colour.{IsPremultiplied}
 use Rattle.wr_io.specs.declared.fault.Code.TheVariants as code
 use Rattle.wr_io.specs.declared.fault.Fault.{Fault}
+use Rattle.wr_io.specs.declared.fault.DecodeError.{DecodeError}
+use Rattle.field_forms.specs.Form.{next, fault}
+use Rattle.field_forms.specs.Outcome.{Fails, moved}
 use Rattle.display_list.specs.declared.item.Spot.{Spot}
 use Rattle.display_list.specs.declared.token.Token.{Token}
 use Rattle.display_list.specs.declared.token.Token.TheVariants.{Solid}
-use Rattle.display_list.specs.Listing.{Listing}
+use Rattle.display_list.specs.ListModel.{ListModel}
 use Rattle.display_list.specs.Decoding.{list_at}
-use Rattle.display_list.specs.Form.{next}
+use Rattle.txn_format.specs.Txn.{OpModel, PlacedModel, TxnModel, set_list, set_view}
+use Rattle.txn_format.specs.Grammar.{txn_at}
 use Rattle.frame_replay.specs.declared.limits.TheConstants.{MAX_SOLIDS}
-use Rattle.frame_replay.specs.Transaction.{RawTransactionModel}
-use Rattle.frame_replay.specs.Models.{SolidModel, SolidListModel, RawListModel}
-use Rattle.frame_replay.specs.declared.transaction.RawOperation.{RawOperation}
-use Rattle.frame_replay.specs.declared.transaction.RawOperation.TheVariants as raw
+use Rattle.frame_replay.specs.Models.{SolidModel, SolidListModel}
 use Rattle.frame_replay.specs.declared.scene.Operation.{Operation}
 use Rattle.frame_replay.specs.declared.scene.Operation.TheVariants.{SetView, SetList}
 
--- each of a colour's channels is at most its alpha
-abbrev pub is_colour : Px → Bool
-is_colour p = nat_le p.b p.a && nat_le p.g p.a && nat_le p.r p.a
+-- a form that isn't built is refused at position 0
+abbrev pub not_built : {A : Type 0} → Result A Fault
+not_built = fault code.NotBuilt 0
+
+-- what is built, or the refusal
+abbrev pub if_built : {A : Type 0} → Option A → Result A Fault
+if_built None = not_built
+if_built (Some x) = Ok x
+
+-- ---- lists
 
 abbrev pub is_none : {A : Type 0} → Option A → Bool
 is_none None = true
@@ -27,11 +36,16 @@ is_none (Some x) = false
 
 -- a solid of the root node without a clip chain
 abbrev pub plain_at : Spot → Px → Option SolidModel
-plain_at spot colour = if (spot.node == 0) && is_none spot.chain && is_colour colour then Some (record { rect = spot.rect; colour = colour }) else None
+plain_at spot colour = if (spot.node == 0) && is_none spot.chain then Some (record { rect = spot.rect; colour = colour }) else None
 
 abbrev pub plain : Token → Option SolidModel
 plain (Solid spot colour) = plain_at spot colour
 plain _ = None
+
+-- the colour of a solid is premultiplied
+abbrev pub HasPremultipliedColour : Token → Type 0
+HasPremultipliedColour (Solid spot colour) = IsPremultiplied colour
+HasPremultipliedColour _ = Unit {0}
 
 -- the first and the others, where all are there
 abbrev pub together : {A : Type 0} → Option A → Option (List A) → Option (List A)
@@ -50,37 +64,58 @@ within_limit None = None
 within_limit (Some solids) = if nat_le (length solids) MAX_SOLIDS then Some solids else None
 
 -- the solids of a list that is built: one without definitions, of at most MAX_SOLIDS plain solids
-unfoldable pub solids_in : Listing → Option (List SolidModel)
+unfoldable pub solids_in : ListModel → Option (List SolidModel)
 solids_in l = if (length l.nodes == 0) && (length l.clips == 0) && (length l.chains == 0) then within_limit (plain_all l.items) else None
 
--- a list of a form that isn't built is refused at position 0
-abbrev pub solid_list : ℕ → Option (List SolidModel) → Result SolidListModel Fault
-solid_list epoch None = Err (record { code = code.NotBuilt; at = 0 })
-solid_list epoch (Some solids) = Ok (record { epoch = epoch; solids = solids })
+-- the solids of a list that was read, with its epoch
+abbrev pub solid_list : ℕ → ListModel → Result SolidListModel Fault
+solid_list epoch l = next (if_built (solids_in l)) (λ solids. Ok (record { epoch = epoch; solids = solids }))
 
--- what a list's bytes give; a fault's position is counted from the payload's first byte
-abbrev pub list_or_fault : RawListModel → Result Listing Fault → Result SolidListModel Fault
-list_or_fault raw (Err f) = Err (record { code = f.code; at = raw.at + f.at })
-list_or_fault raw (Ok l) = solid_list raw.epoch (solids_in l)
+-- The list of an operation at a position: its bytes stand nine bytes after the operation's tag, so a fault of the list is moved by that.
+abbrev pub resolve_list : ℕ → ℕ → List ℕ → Result SolidListModel Fault
+resolve_list at epoch bytes = next (moved (at + 9) (list_at 0 bytes)) (solid_list epoch)
 
-abbrev pub resolve_list : RawListModel → Result SolidListModel Fault
-resolve_list raw = list_or_fault raw (list_at 0 raw.bytes)
+-- ---- operations
 
-abbrev pub resolve_operation : RawOperation → Result Operation Fault
-resolve_operation (raw.SetView view) = Ok (SetView view)
-resolve_operation (raw.SetList sent) = next (resolve_list sent) (λ l. Ok (SetList l))
+-- the operations that are built set the view or a list
+abbrev pub is_built : OpModel → Bool
+is_built (set_view w h clear) = true
+is_built (set_list epoch bytes) = true
+is_built _ = false
+
+abbrev pub all_built : List PlacedModel → Bool
+all_built [] = true
+all_built (p ∷ ps) = is_built p.op && all_built ps
+
+-- what an operation at a position does
+abbrev pub resolve_op : ℕ → OpModel → Result Operation Fault
+resolve_op at (set_view w h clear) = Ok (SetView (record { width = w; height = h; clear = clear }))
+resolve_op at (set_list epoch bytes) = next (resolve_list at epoch bytes) (λ l. Ok (SetList l))
+resolve_op at _ = not_built
 
 -- in order: the first that is refused refuses all
-abbrev pub resolve_operations : List RawOperation → Result (List Operation) Fault
-resolve_operations [] = Ok []
-resolve_operations (r ∷ rs) = next (resolve_operation r) (λ o. next (resolve_operations rs) (λ os. Ok (o ∷ os)))
+abbrev pub resolve_ops : List PlacedModel → Result (List Operation) Fault
+resolve_ops [] = Ok []
+resolve_ops (p ∷ ps) = next (resolve_op p.at p.op) (λ o. next (resolve_ops ps) (λ os. Ok (o ∷ os)))
+
+-- ---- transactions
 
 -- what a transaction does
 pub record TransactionModel : Type 0 where
   pub frame : Bool
   pub operations : List Operation
 
--- a payload that doesn't pass the first reading is refused at position 0
-abbrev pub resolve : Option RawTransactionModel → Result TransactionModel Fault
-resolve None = Err (record { code = code.NotBuilt; at = 0 })
-resolve (Some raw) = next (resolve_operations raw.operations) (λ os. Ok (record { frame = raw.frame; operations = os }))
+-- A transaction of another pipeline than the root's, 0, isn't built, nor is one with another operation.
+abbrev pub resolve : TxnModel → Result TransactionModel Fault
+resolve t =
+    if (t.pipeline == 0) && all_built t.ops then next (resolve_ops t.ops) (λ os. Ok (record { frame = t.frame; operations = os }))
+    else not_built
+
+-- the transaction that a payload spells, or the payload's first fault
+abbrev pub resolve_payload : List ℕ → Result TransactionModel Fault
+resolve_payload payload = next (txn_at payload) resolve
+
+-- What was answered, as a view sees it, is what is resolved, or the fault, unless memory ran out.
+abbrev pub ResolvesBy : {X Y : Type 0} → (X → Y) → Result X DecodeError → Result Y Fault → Type 0
+ResolvesBy view (Ok x) resolved = resolved ≡ Ok (view x)
+ResolvesBy view (Err e) resolved = Fails e resolved

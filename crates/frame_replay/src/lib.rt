@@ -10,10 +10,9 @@ mod replay;
 mod resolve;
 mod scene;
 mod status;
-mod transaction;
 
-pub use laws::replay_laws;
-pub use limits::{MAX_SIDE, MAX_SOLIDS};
+pub use laws::{refusal_laws, replay_laws};
+pub use limits::MAX_SOLIDS;
 pub use program::{Command, run};
 pub use scene::{Operation, Scene, Solid, SolidList, View};
 pub use wr_io::{StdSink, StdSource};

@@ -1,7 +1,6 @@
 //! The record that answers a transaction.
 
-ghost use Rattle.std.specs.Prelude.{◌≡◌, ◌++◌, ◌∷◌, [], OnOk, if◌then◌else◌};
-ghost use Rattle.std.specs.Int.{w16, w32, to_le_bytes};
+ghost use Rattle.std.specs.Prelude.{◌≡◌, ◌++◌, ◌≤◌, ◌^◌, ◌∷◌, [], length, OnOk, if◌then◌else◌};
 ghost use Rattle.frame_replay.specs.Output.{drawn_lists, frame_record, refusal_record, record_of, next_scene};
 ghost use Rattle.frame_replay.specs.Scene.{after_all};
 
@@ -9,25 +8,9 @@ use crate::paint::{paint, put_pixels};
 use crate::resolve::{Transaction, resolve_payload};
 use crate::scene::{Operation, Scene};
 use blend_rules::Px;
-use byteorder::{ByteOrder, LittleEndian};
+use field_forms::{put_u16, put_u32};
 use std::alloc::{AllocError, Global};
 use wr_io::{DecodeError, Fault};
-
-fn put_u16(out: &mut Vec<u8>, number: u16) -> Result<(), AllocError>
-    ensures { OnOk result (out.new.items ≡ out.old.items ++ to_le_bytes w16 number) }
-{
-    let mut bytes = [0u8; 2];
-    LittleEndian::write_u16(&mut bytes, number);
-    out.extend_from_slice(&bytes)
-}
-
-fn put_u32(out: &mut Vec<u8>, number: u32) -> Result<(), AllocError>
-    ensures { OnOk result (out.new.items ≡ out.old.items ++ to_le_bytes w32 number) }
-{
-    let mut bytes = [0u8; 4];
-    LittleEndian::write_u32(&mut bytes, number);
-    out.extend_from_slice(&bytes)
-}
 
 /// Appends the record of a refusal.
 fn put_refusal(out: &mut Vec<u8>, fault: Fault) -> Result<(), AllocError>
@@ -104,6 +87,7 @@ pub(crate) fn answer(
     block: &mut Vec<Px>,
     out: &mut Vec<u8>,
 ) -> Result<(), AllocError>
+    requires { length payload.now ≤ 2 ^ 26 }
     ensures out { OnOk result (out.new.items ≡ record_of payload.now scene.old) }
     ensures scene { OnOk result (scene.new ≡ next_scene payload.now scene.old) }
 {

@@ -7,6 +7,7 @@ use wr_io::{MemSink, MemSource};
 mod causes;
 mod files;
 mod frames;
+mod payloads;
 mod refusals;
 
 /// What a run left.

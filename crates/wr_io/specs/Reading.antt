@@ -28,14 +28,10 @@ number_at w unread =
     if nat_lt (length unread.bytes) (byte_len w) then None else
     Some (from_le_bytes w (take (byte_len w) unread.bytes), record { at = unread.at + byte_len w; bytes = drop (byte_len w) unread.bytes })
 
-infixl 10 ◌>>=◌
--- what is read next, where something was read
-abbrev pub ◌>>=◌ : {A B : Type 0} → Option A → (A → Option B) → Option B
-None >>= f = None
-(Some x) >>= f = f x
+-- a number of four bytes in two's complement, where the number is there
+abbrev pub signed_in : Option (ℕ × Unread) → Option (ℤ × Unread)
+signed_in None = None
+signed_in (Some (n, after)) = Some (cast_signed w32 n, after)
 
--- a number of four bytes in two's complement
 unfoldable pub signed_at : Unread → Option (ℤ × Unread)
-signed_at unread = do
-  n ← number_at w32 unread
-  Some (cast_signed w32 n.0, n.1)
+signed_at unread = signed_in (number_at w32 unread)

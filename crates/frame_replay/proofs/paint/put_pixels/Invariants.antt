@@ -1,8 +1,7 @@
 use Rattle.std.proofs.Common.{◌≡◌, ◌++◌, take}
 use Rattle.std.specs.List.{flat_map}
-use Rattle.blend_rules.specs.Colour.{blended}
+use Rattle.blend_rules.specs.Colour.{blended, colour_bytes}
 use Rattle.blend_rules.specs.declared.mode.Mode.TheVariants.{Normal}
-use Rattle.frame_replay.specs.Painting.{colour_bytes}
 use Rattle.frame_replay.proofs.paint.put_pixels.Given as goal
 
 abbrev pub invariant-loop-px : goal.invariant-loop-px

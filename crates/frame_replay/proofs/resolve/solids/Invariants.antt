@@ -1,5 +1,5 @@
 use Rattle.std.proofs.Common.{◌≡◌, drop}
-use Rattle.display_list.specs.Tree.{tokens_of}
+use Rattle.display_list.specs.Tokens.{tokens_of}
 use Rattle.frame_replay.specs.Resolve.{plain_all}
 use Rattle.frame_replay.proofs.Members.{after_some}
 use Rattle.frame_replay.proofs.resolve.solids.Given as goal
