@@ -1,22 +1,16 @@
 -- Operations of a transaction, one by one.
-use Rattle.std.proofs.Common.{◌≡◌, ℕ, zero, suc, ◌+◌, ◌<◌, ◌≤◌, ◌^◌, Bool, true, false, ◌&&◌, List, [], ◌∷◌, ◌++◌, length, drop, get_or, Result, Ok, Err, sym, ap, subst, ◌∙◌, arith, append-nil, length-drop}
+use Rattle.std.proofs.Common.{ℕ, zero, suc, ◌+◌, ◌<◌, ◌≤◌, ◌^◌, Bool, List, [], ◌∷◌, length, drop, get_or, Result, arith}
 use Rattle.std.specs.Prelude.{All}
-use Rattle.std.proofs.Math.Seq.{drop-cons}
-use Rattle.std.proofs.lemmas.List.{nil_from_length}
 use Rattle.std.proofs.lemmas.List.Elements.{All-head, All-tail}
 use Rattle.wr_io.specs.declared.fault.Fault.{Fault}
-use Rattle.wr_io.specs.declared.fault.DecodeError.{DecodeError}
-use Rattle.wr_io.specs.declared.fault.DecodeError.TheVariants as errors
-use Rattle.field_forms.specs.Form.{next}
-use Rattle.field_forms.specs.Outcome.{Fails}
 use Rattle.txn_format.specs.declared.op.Placed.{Placed}
 use Rattle.txn_format.specs.Txn.{PlacedModel, set_list}
 use Rattle.txn_format.specs.Checks.{EndsWithin}
 use Rattle.txn_format.proofs.OpLengths.{length-set_list}
-use Rattle.txn_format.specs.Models.{op_model, placed_model, placed_models}
-use Rattle.frame_replay.specs.Resolve.{all_built, is_built, resolve_op, resolve_ops}
+use Rattle.txn_format.specs.Models.{placed_model, placed_models}
+use Rattle.frame_replay.specs.Resolve.{all_built, resolve_ops}
 use Rattle.frame_replay.specs.declared.scene.Operation.{Operation}
-use Rattle.frame_replay.proofs.Members.{after_ok, more_ok}
+use Rattle.frame_replay.proofs.Members.{after_ok}
 
 -- a fact of each operation holds of one
 pub each_op : (P : PlacedModel → Type 0) (ps : List Placed) (k : ℕ) (d : Placed) → k < length ps → All P (placed_models ps) → P (placed_model (get_or ps k d))

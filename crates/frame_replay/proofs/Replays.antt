@@ -1,5 +1,5 @@
 -- A replay refuses no transaction with a status of its own.
-use Rattle.std.proofs.Common.{◌≡◌, ℕ, List, [], ◌∷◌, Option, None, refl}
+use Rattle.std.proofs.Common.{◌≡◌, ℕ, List, [], ◌∷◌, None, refl}
 use Rattle.record_frame.specs.Answers.{first_refusal}
 use Rattle.frame_replay.specs.Output.{replaying, next_scene}
 use Rattle.frame_replay.specs.declared.scene.Scene.{Scene}
