@@ -3,18 +3,8 @@
 # frame of 4,096 by 4,096 pixels. A program that gives up above some size ends with status 5 there. It prints
 # one line, and ends with 0 where all is as it should be.
 cd "$(dirname "$0")/.." || exit 1
-program=crates/wrreplay/out/wrreplay
-if [ ! -x "$program" ]; then
-    echo "sizes: skipped, the program isn't built"
-    exit 0
-fi
-work=$(mktemp -d) || exit 1
-trap 'rm -rf "$work"' EXIT
-
-fail() {
-    echo "sizes: FAILED: $1"
-    exit 1
-}
+NAME=sizes
+. tools/built_program.sh
 
 # replay NAME: the program answers all of the input.
 replay() {

@@ -3,18 +3,8 @@
 # broken pipe, a full disk, a stream that can't be read, a word that isn't text and memory that runs out
 # among them. It prints one line, and ends with 0 where all is as it should be.
 cd "$(dirname "$0")/.." || exit 1
-program=crates/wrreplay/out/wrreplay
-if [ ! -x "$program" ]; then
-    echo "statuses: skipped, the program isn't built"
-    exit 0
-fi
-work=$(mktemp -d) || exit 1
-trap 'rm -rf "$work"' EXIT
-
-fail() {
-    echo "statuses: FAILED: $1"
-    exit 1
-}
+NAME=statuses
+. tools/built_program.sh
 
 # expect NAME STATUS WANTED_STATUS NOTE: the status, and the one line of the note, or none.
 expect() {

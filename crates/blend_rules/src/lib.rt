@@ -6,8 +6,6 @@ mod laws;
 mod mode;
 mod plane;
 mod rules;
-#[cfg(test)]
-mod tests;
 mod values;
 
 pub use colour::Px;

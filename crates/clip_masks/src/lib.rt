@@ -20,6 +20,3 @@ pub use chain::{cover_row, cut, shift_clips};
 pub use clip::Clip;
 pub use laws::{chain_laws, clip_laws, clip_order_laws};
 pub use shape::Rounded;
-
-#[cfg(test)]
-mod tests;

@@ -10,8 +10,6 @@ mod number_map;
 mod pair_map;
 mod sequence;
 mod shared;
-#[cfg(test)]
-mod tests;
 
 pub use exact::Exact;
 pub use laws::{number_map_laws, pair_map_laws, sequence_laws};

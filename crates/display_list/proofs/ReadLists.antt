@@ -73,7 +73,7 @@ more_read m s t p left after_it took r =
       ends = subst (λ (q : ℕ). Passes (next_part m t) q r.last None) place r.ends;
     }
 
--- what is read behind a part
+-- what is read after a part
 abbrev ReadsAfter : ℕ → ℕ → PartialList → PartialList → Type 0
 ReadsAfter m n s t = (p : Part) (left : Unread) → AreBytes left.bytes → read_parts m n (after s p) left ≡ Ok t → ReadTo m (after s p) left t
 
@@ -91,7 +91,7 @@ parts_read m (suc n) s t left k e =
 
 -- ---- what is spelled so is read
 
--- what comes of a whole list with these bytes behind it
+-- what comes of a whole list with these bytes after it
 abbrev rest_of : PartialList → ℕ → List ℕ → Result PartialList Fault
 rest_of t at more = next (nothing_left (record { at = at; bytes = more })) (λ _. ok t)
 
@@ -168,7 +168,7 @@ surplus_at m s left after_it f took e = by_rest (eqb (length after_it.bytes) 0) 
         at_once m s left f (subst (λ (d : Fault). FailsNext m left.at s left.bytes d.code d.at) same
         (FailsNext.surplus took.prefix after_it.bytes took.parts (some_left _ h) took.passes refl took.place))
 
--- what fails behind a part
+-- what fails after a part
 abbrev FailsMore : ℕ → ℕ → PartialList → Fault → Type 0
 FailsMore m n s f = (p : Part) (left : Unread) → length left.bytes < n → AreBytes left.bytes → read_parts m n (after s p) left ≡ Err f → FaultyFrom m (after s p) left f
 
@@ -307,7 +307,7 @@ is_faulty own bytes (Err (errors.Fault f)) k h = fault_first own bytes f k h
 
 -- ---- a first fault is the one that is read
 
--- what is read behind parts that lead somewhere
+-- what is read after parts that lead somewhere
 read_after_lead : (m n at : ℕ) (s t : PartialList) (ps : List Part) (prefix rest : List ℕ) → Lead m at s ps prefix t
     → read_parts m (length ps + n) s (record { at = at; bytes = prefix ++ rest }) ≡ read_parts m n t (record { at = at + length prefix; bytes = rest })
 unfolding read_parts

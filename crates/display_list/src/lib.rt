@@ -15,8 +15,6 @@ mod list;
 mod node;
 mod parts;
 mod tags;
-#[cfg(test)]
-mod tests;
 mod token;
 
 pub use decoder::decode;

@@ -17,6 +17,3 @@ pub use writing::{
     put_byte, put_bytes, put_colour, put_flag, put_i32, put_optional, put_rectangle, put_u16,
     put_u32,
 };
-
-#[cfg(test)]
-mod tests;

@@ -16,6 +16,3 @@ pub use limits::MAX_SOLIDS;
 pub use program::{Command, run};
 pub use scene::{Operation, Scene, Solid, SolidList, View};
 pub use wr_io::{StdSink, StdSource};
-
-#[cfg(test)]
-mod tests;

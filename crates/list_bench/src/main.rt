@@ -1,7 +1,7 @@
 //! With a word as argument, prints how fast lists are decoded: `solids`, `contexts` or `scrolls`.
 #![tactic(auto)]
 
-ghost use Rattle.std.specs.Prelude.{◌≤◌, ◌^◌, IfSome, length};
+ghost use Rattle.std.specs.Prelude.{◌≤◌, ◌^◌, length};
 
 use display_list::decode;
 use std::alloc::{AllocError, Global};

@@ -1,4 +1,4 @@
-//! The fields behind an operation's tag.
+//! The fields after an operation's tag.
 
 ghost use Rattle.std.specs.Prelude.{◌≡◌, ◌≤◌, ◌*◌, IfOk};
 ghost use Rattle.field_forms.specs.Form.{piece, read};
@@ -188,7 +188,7 @@ fn view_side(reader: &mut Reader<'_>) -> Result<u16, DecodeError>
     u16_between(reader, 1, MAX_SIDE, Code::BadNumber)
 }
 
-/// The view's sides and the colour behind all.
+/// The view's sides and the colour after all.
 #[tactic(auto, unfolding(crate::specs::Forms::set_view_form))]
 pub fn set_view<'a>(reader: &mut Reader<'a>) -> Result<Op<'a>, DecodeError>
     ensures { ReadsBy op_model result reader.new (read set_view_form reader.old) }

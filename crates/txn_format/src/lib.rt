@@ -7,8 +7,6 @@ mod limits;
 mod op;
 mod reading;
 mod tags;
-#[cfg(test)]
-mod tests;
 mod txn;
 mod writing;
 

@@ -19,6 +19,3 @@ pub use no_memory::NoMemory;
 pub use point::Point;
 pub use rect::Rect;
 pub use sides::{Radii, Widths};
-
-#[cfg(test)]
-mod tests;

@@ -13,6 +13,3 @@ pub use fault::{Code, DecodeError, Fault};
 pub use memory::{MemSink, MemSource};
 pub use standard::{StdSink, StdSource};
 pub use streams::{Failed, Sink, Source, read_exact, write_whole};
-
-#[cfg(test)]
-mod tests;

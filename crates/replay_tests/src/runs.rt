@@ -1,6 +1,6 @@
 //! Whole runs over memory: worked files, their answers, statuses and notes.
 
-use super::run;
+use frame_replay::run;
 use std::test::Fail;
 use wr_io::{MemSink, MemSource};
 

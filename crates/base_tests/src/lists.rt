@@ -1,4 +1,4 @@
-use super::*;
+use display_list::*;
 use std::alloc::{AllocError, Global};
 use std::test::Fail;
 use wr_io::DecodeError;
@@ -223,11 +223,15 @@ fn every_form_twice(rt: HostRuntime) -> Result<(), Fail> {
     assert_eq!(rt; list.items().len(), 4);
     let again = encode(rt.alloc(), &list).ok().ok_or("there is memory")?;
     assert!(rt; again.as_slice() == WHOLE.as_slice());
+    Ok(())
+}
+
+#[test]
+fn laws_of_lists() {
     spelling_laws();
     fault_laws();
     reading_laws();
     tree_laws();
-    Ok(())
 }
 
 #[test]
@@ -258,26 +262,37 @@ fn each_field_wrong(rt: HostRuntime) -> Result<(), Fail> {
     Ok(())
 }
 
+/// Short lists of pipeline 0, and the code and position of the fault of each.
+const SHORT: [(&[u8], u8, u32); 10] = [
+    (&[], 2, 0),
+    (&[0, 0], 14, 1),
+    (&[11, 0], 5, 0),
+    (&[99], 1, 0),
+    (&[6], 2, 1),
+    (&[6, 1, 0], 4, 1),
+    (&[5, 255, 255, 1, 0, 0], 4, 4),
+    (&[10, 0, 0, 255, 255, 255, 255, 255, 0, 0, 0], 5, 10),
+    (
+        &[3, 0, 0, 0, 0, 0, 0, 0, 0, 0, 0, 0, 0, 0, 0, 0, 0, 0, 0, 1],
+        1,
+        19,
+    ),
+    (
+        &[
+            4, 0, 0, 0, 0, 0, 0, 0, 0, 0, 0, 0, 4, 0, 0, 0, 4, 0, 0, 0, 3, 0, 3, 0, 2, 0, 0, 0, 0,
+            0, 0, 0, 0, 0, 0, 0, 0,
+        ],
+        12,
+        20,
+    ),
+];
+
 #[test]
 fn short_lists(rt: HostRuntime) {
-    let alloc = rt.alloc();
-    assert_eq!(rt; fault_of(alloc, &[], 0), Some((2, 0)));
-    assert_eq!(rt; fault_of(alloc, &[0, 0], 0), Some((14, 1)));
-    assert_eq!(rt; fault_of(alloc, &[11, 0], 0), Some((5, 0)));
-    assert_eq!(rt; fault_of(alloc, &[99], 0), Some((1, 0)));
-    assert_eq!(rt; fault_of(alloc, &[6], 0), Some((2, 1)));
-    assert_eq!(rt; fault_of(alloc, &[6, 1, 0], 0), Some((4, 1)));
-    assert_eq!(rt; fault_of(alloc, &[5, 255, 255, 1, 0, 0], 0), Some((4, 4)));
-    let open = [10, 0, 0, 255, 255, 255, 255, 255, 0, 0, 0];
-    assert_eq!(rt; fault_of(alloc, &open, 0), Some((5, 10)));
-    let clip = [3, 0, 0, 0, 0, 0, 0, 0, 0, 0, 0, 0, 0, 0, 0, 0, 0, 0, 0, 1];
-    assert_eq!(rt; fault_of(alloc, &clip, 0), Some((1, 19)));
-    assert_eq!(rt; fault_of(alloc, &WHOLE, 1), Some((8, 299)));
-    let round = [
-        4, 0, 0, 0, 0, 0, 0, 0, 0, 0, 0, 0, 4, 0, 0, 0, 4, 0, 0, 0, 3, 0, 3, 0, 2, 0, 0, 0, 0, 0,
-        0, 0, 0, 0, 0, 0, 0,
-    ];
-    assert_eq!(rt; fault_of(alloc, &round, 0), Some((12, 20)));
+    for (bytes, code, at) in SHORT {
+        assert_eq!(rt; fault_of(rt.alloc(), bytes, 0), Some((code, at)));
+    }
+    assert_eq!(rt; fault_of(rt.alloc(), &WHOLE, 1), Some((8, 299)));
 }
 
 #[test]

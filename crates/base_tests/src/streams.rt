@@ -1,5 +1,5 @@
-use super::*;
 use std::test::Fail;
+use wr_io::*;
 
 #[test]
 fn reads_in_small_calls_until_one_fails(rt: HostRuntime) -> Result<(), Fail> {

@@ -1,8 +1,8 @@
 ghost use Rattle.std.specs.Prelude.{◌≡◌, IfOk};
 
-use super::{NoMemory, Point, Radii, Rect, SliceKey, TileKey, Widths, rect_laws};
 use std::cmp::Ordering;
 use std::test::Fail;
+use wr_geom::{NoMemory, Point, Radii, Rect, SliceKey, TileKey, Widths, rect_laws};
 
 fn rect(x0: i32, y0: i32, x1: i32, y1: i32) -> Result<Rect, Fail>
     ensures { IfOk result (λ r. r ≡ record { x0 = x0; y0 = y0; x1 = x1; y1 = y1 }) }
@@ -51,25 +51,29 @@ fn keeps_its_range(rt: HostRuntime) -> Result<(), Fail> {
 }
 
 #[test]
-fn sides_fit(rt: HostRuntime) -> Result<(), Fail> {
+fn radii_fit_a_side(rt: HostRuntime) -> Result<(), Fail> {
     let rect = rect(-2, 0, 8, 5)?;
     assert_eq!(rt; (rect.width(), rect.height()), (10, 5));
-    let corner = (5, 2);
     let radii = Radii {
-        tl: corner,
-        br: corner,
+        tl: (5, 2),
+        br: (5, 2),
         tr: (5, 3),
-        bl: (6, 3),
+        bl: (5, 3),
     };
-    assert!(rt; !radii.fit(rect));
+    assert!(rt; radii.fit(rect));
     assert!(rt;
-        Radii {
-            bl: (5, 3),
+        !Radii {
+            bl: (6, 3),
             ..radii
         }
         .fit(rect)
     );
-    assert!(rt; radii.are_small());
+    Ok(())
+}
+
+#[test]
+fn radii_are_at_most_4096(rt: HostRuntime) {
+    assert!(rt; Radii::SQUARE.are_small());
     assert!(rt;
         !Radii {
             tr: (0, 4097),
@@ -77,13 +81,18 @@ fn sides_fit(rt: HostRuntime) -> Result<(), Fail> {
         }
         .are_small()
     );
+}
+
+#[test]
+fn widths_fit_a_side(rt: HostRuntime) -> Result<(), Fail> {
+    let rect = rect(-2, 0, 8, 5)?;
     let widths = Widths {
         top: 1,
         right: 3,
         bottom: 4,
         left: 7,
     };
-    assert!(rt; widths.fit(rect));
+    assert!(rt; widths.fit(rect) && widths.are_small());
     assert!(rt; !Widths { top: 2, ..widths }.fit(rect));
     assert!(rt;
         !Widths {
@@ -96,7 +105,7 @@ fn sides_fit(rt: HostRuntime) -> Result<(), Fail> {
 }
 
 #[test]
-fn keys_and_sums(rt: HostRuntime) -> Result<(), Fail> {
+fn keys_come_by_column_and_row(rt: HostRuntime) -> Result<(), Fail> {
     let slice = SliceKey {
         scroll: Some((1, 65535)),
         nth: 0,
@@ -114,10 +123,18 @@ fn keys_and_sums(rt: HostRuntime) -> Result<(), Fail> {
         }),
         Ordering::Less
     );
+    Ok(())
+}
+
+#[test]
+fn points_add(rt: HostRuntime) {
     let sum = Point { x: 7, y: -3 }.plus(Point { x: -9, y: 3 });
     assert_eq!(rt; sum, Point { x: -2, y: 0 });
+}
+
+#[test]
+fn laws_of_rectangles() {
     rect_laws();
-    Ok(())
 }
 
 #[test]

@@ -1,6 +1,8 @@
 ghost use Rattle.std.specs.Prelude.{◌≡◌, ◌≤◌, ◌<◌, ◌^◌, IfOk};
 
-use super::{Clip, Rounded, chain_laws, clip_laws, clip_order_laws, cover_row, cut, shift_clips};
+use clip_masks::{
+    Clip, Rounded, chain_laws, clip_laws, clip_order_laws, cover_row, cut, shift_clips,
+};
 use std::alloc::{AllocError, Global};
 use std::cmp::Ordering;
 use std::test::Fail;
@@ -208,8 +210,12 @@ fn compares_and_moves_chains(rt: HostRuntime) -> Result<(), Fail> {
     let mut chain = [plain, hole];
     shift_clips(&mut chain, by);
     assert_eq!(rt; chain, [plain.shift(by), hole.shift(by)]);
+    Ok(())
+}
+
+#[test]
+fn laws_of_clips() {
     clip_laws();
     chain_laws();
     clip_order_laws();
-    Ok(())
 }

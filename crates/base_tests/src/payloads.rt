@@ -1,7 +1,7 @@
-use super::*;
 use blend_rules::Px;
 use std::alloc::{AllocError, Global};
 use std::test::Fail;
+use txn_format::*;
 use wr_io::DecodeError;
 
 /// A transaction with every operation.
@@ -139,35 +139,41 @@ fn every_operation_twice(rt: HostRuntime) -> Result<(), Fail> {
         .ok()
         .ok_or("the bytes are a transaction")?;
     assert_eq!(rt; (txn.pipeline(), txn.frame(), txn.len()), (0, true, 117));
-    let ops = txn.ops();
-    assert_eq!(rt; ops.len(), 13);
+    assert_eq!(rt; txn.ops().len(), 13);
+    assert!(rt; is_written_again(rt.alloc(), &WHOLE));
+    Ok(())
+}
+
+#[test]
+fn operations_have_their_positions(rt: HostRuntime) -> Result<(), Fail> {
+    let txn = read_txn(rt.alloc(), &WHOLE)
+        .ok()
+        .ok_or("the bytes are a transaction")?;
     let list = Op::SetList {
         epoch: 7,
         bytes: &[9, 8, 7],
     };
-    assert_eq!(rt; ops.first().copied(), Some(Placed { at: 4, op: list }));
+    assert_eq!(rt;
+        txn.ops().first().copied(),
+        Some(Placed { at: 4, op: list })
+    );
     let scroll = Op::Scroll {
         sid: 5,
         x: 1_048_576,
         y: -1_048_576,
     };
-    assert_eq!(rt; ops.get(2).copied(), Some(Placed { at: 17, op: scroll }));
-    let view = Op::SetView {
-        w: 4096,
-        h: 1,
-        clear: Px {
-            b: 1,
-            g: 2,
-            r: 3,
-            a: 4,
-        },
-    };
-    assert_eq!(rt; ops.get(10).copied(), Some(Placed { at: 98, op: view }));
-    assert!(rt; is_written_again(rt.alloc(), &WHOLE));
+    assert_eq!(rt;
+        txn.ops().get(2).copied(),
+        Some(Placed { at: 17, op: scroll })
+    );
+    Ok(())
+}
+
+#[test]
+fn laws_of_transactions() {
     txn_spelling_laws();
     txn_fault_laws();
     txn_reading_laws();
-    Ok(())
 }
 
 #[test]
@@ -187,11 +193,11 @@ fn cut_in_each_field(rt: HostRuntime) {
 
 #[test]
 fn each_field_wrong(rt: HostRuntime) -> Result<(), Fail> {
-    for (at, bytes, code, place) in WRONG {
+    for (at, bytes, code, position) in WRONG {
         let payload = patched(rt.alloc(), at, bytes)?;
         assert_eq!(rt;
             fault_of(rt.alloc(), payload.as_slice()),
-            Some((code, place)),
+            Some((code, position)),
             "at {at}"
         );
     }

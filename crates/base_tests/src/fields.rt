@@ -1,5 +1,5 @@
-use super::*;
 use blend_rules::Px;
+use field_forms::*;
 use std::test::Fail;
 use wr_io::{Code, DecodeError};
 
