@@ -1,5 +1,5 @@
 //! The tests of the base crates, over their public calls: geometry, colours, streams, containers, fields,
-//! display lists, transactions and masks. They stand in a crate of their own, since a crate with tests
+//! display lists, transactions, masks and the loop over records. They stand in a crate of their own, since a crate with tests
 //! is proved twice.
 #![tactic(auto)]
 
@@ -17,5 +17,7 @@ mod masks;
 mod payloads;
 #[cfg(test)]
 mod plain_values;
+#[cfg(test)]
+mod records;
 #[cfg(test)]
 mod streams;

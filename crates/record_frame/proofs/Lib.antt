@@ -5,4 +5,3 @@ pub mod Rules
 pub mod Framings
 pub mod Progress
 pub mod Magic
-pub mod Toys

@@ -6,4 +6,3 @@ pub mod Reading
 pub mod Writing
 pub mod Steps
 pub mod Outcome
-pub mod Toys

@@ -16,6 +16,3 @@ pub use limits::{MAX_ENTRIES, MAX_PAYLOAD_BYTES};
 pub use reading::{fill, read_payload, read_tag};
 pub use session::Session;
 pub use transactions::{AnswerPayload, Transactions};
-
-#[cfg(test)]
-mod tests;

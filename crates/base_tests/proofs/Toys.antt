@@ -5,7 +5,7 @@ use Rattle.std.proofs.lemmas.Bool.Decides.{nat_tests}
 use Rattle.std.specs.Cmp.Lexicographic.{pointwise}
 use Rattle.record_frame.specs.Framing.{FirstRecord, entry, closing, broken, map_entry, IsInputForm}
 use Rattle.record_frame.specs.Transactions.{first_sized}
-use Rattle.record_frame.specs.Toys.{first_after, first_ring, is_bells, ring_size, bells}
+use Rattle.base_tests.specs.Toys.{first_after, first_ring, is_bells, ring_size, bells}
 use Rattle.record_frame.proofs.FirstRecords.{sized_size, sized_more}
 
 -- ---- the magic

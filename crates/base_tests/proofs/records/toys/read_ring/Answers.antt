@@ -1,12 +1,12 @@
 use Rattle.std.proofs.Common.{rules, arith, ℕ, List, Bool, [], ◌∷◌, ◌++◌, Option, Some, None, Ok, Err, inl, sym, ap, ◌∙◌, append_assoc, append-nil}
 use Rattle.std.proofs.lemmas.Result.{err_from_is_err_and}
 use Rattle.record_frame.specs.Framing.{entry}
-use Rattle.record_frame.specs.Toys.{ring_of, first_after, first_ring}
+use Rattle.base_tests.specs.Toys.{ring_of, first_after, first_ring}
 use Rattle.record_frame.specs.Reading.{GetsTag, Decides, record_read}
 use Rattle.record_frame.specs.declared.error.ReadError.TheVariants.{Broken}
 use Rattle.record_frame.proofs.Takings.{weaker, joined, one_byte, same_error, then_decides, none_decides}
-use Rattle.record_frame.proofs.Toys.{ring_none, ring_tag, ring_close, ring_other}
-use Rattle.record_frame.proofs.tests.toys.read_ring.Goals as goal
+use Rattle.base_tests.proofs.Toys.{ring_none, ring_tag, ring_close, ring_other}
+use Rattle.base_tests.proofs.records.toys.read_ring.Goals as goal
 
 pub returns-in_err-tag-clause-told : goal.returns-in_err-tag-clause-told
 returns-in_err-tag-clause-told g c =

@@ -3,10 +3,11 @@
 ghost use Rattle.std.specs.Prelude.{◌≡◌, ◌≤◌, ℕ, List, Bool, Option, length, IfSome, IsSome, IfOk, IfErr, OnOk, true};
 ghost use Rattle.record_frame.specs.Framing.{entry};
 ghost use Rattle.record_frame.specs.Reading.{Took, Decides, ReadCause, record_read};
-ghost use Rattle.record_frame.specs.Toys.{lengths, first_bytes, first_after, first_ring, bells, ring_of, ringing};
+ghost use Rattle.base_tests.specs.Toys.{lengths, first_bytes, first_after, first_ring, bells, ring_of, ringing};
 
-use crate::limits::MAX_PAYLOAD_BYTES;
-use crate::{AnswerError, AnswerPayload, ReadError, Session, read_payload, read_tag};
+use record_frame::{
+    AnswerError, AnswerPayload, MAX_PAYLOAD_BYTES, ReadError, Session, read_payload, read_tag,
+};
 use std::alloc::Global;
 use wr_io::{Code, Fault, Source};
 

@@ -1,7 +1,7 @@
 use Rattle.std.proofs.Common.{rules, ◌≡◌, nat_eq, codes, sym, ◌∙◌}
 use Rattle.std.specs.Cmp.Lexicographic.{pointwise}
-use Rattle.record_frame.proofs.Toys.{bells_four}
-use Rattle.record_frame.proofs.tests.toys.BellsSession.opens.Goals as goal
+use Rattle.base_tests.proofs.Toys.{bells_four}
+use Rattle.base_tests.proofs.records.toys.BellsSession.opens.Goals as goal
 
 pub returns : goal.returns
 returns c =

@@ -2,12 +2,12 @@ use Rattle.std.proofs.Common.{rules, arith, â„•, List, Bool, true, false, [], â—
 use Rattle.std.proofs.lemmas.Result.{err_from_is_err_and}
 use Rattle.record_frame.specs.Framing.{entry, map_entry}
 use Rattle.record_frame.specs.Transactions.{first_sized}
-use Rattle.record_frame.specs.Toys.{ring_of, first_after}
+use Rattle.base_tests.specs.Toys.{ring_of, first_after}
 use Rattle.record_frame.specs.Reading.{Decides}
 use Rattle.record_frame.specs.declared.error.ReadError.TheVariants.{Broken}
 use Rattle.record_frame.proofs.Takings.{weaker, nothing_taken, decides_mapped}
-use Rattle.record_frame.proofs.Toys.{after_bell, after_sent, after_other}
-use Rattle.record_frame.proofs.tests.toys.read_rest.Goals as goal
+use Rattle.base_tests.proofs.Toys.{after_bell, after_sent, after_other}
+use Rattle.base_tests.proofs.records.toys.read_rest.Goals as goal
 
 pub returns-in_err-read_payload-in-80-clause-told : goal.returns-in_err-read_payload-in-80-clause-told
 returns-in_err-read_payload-in-80-clause-told g c =

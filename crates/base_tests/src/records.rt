@@ -2,7 +2,7 @@
 
 ghost use Rattle.record_frame.specs.Framing.{IsInputForm};
 
-use crate::{AnswerPayload, RunError, Session, Transactions, answer_input};
+use record_frame::{AnswerPayload, RunError, Session, Transactions, answer_input};
 use std::test::Fail;
 use wr_io::{Code, Fault, MemSink, MemSource};
 
