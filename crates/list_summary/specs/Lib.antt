@@ -1,0 +1,4 @@
+pub mod Shown
+pub mod Totals
+pub mod Frames
+pub mod Laws
