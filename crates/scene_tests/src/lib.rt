@@ -1,0 +1,5 @@
+//! The tests of what a scene is made of, over its public calls.
+#![tactic(auto)]
+
+#[cfg(test)]
+mod summaries;
