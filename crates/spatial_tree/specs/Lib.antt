@@ -1,0 +1,4 @@
+pub mod Moves
+pub mod Lineage
+pub mod Offsets
+pub mod Homes
