@@ -1,17 +1,19 @@
 -- A chain's clips with its parents'.
-use Rattle.std.proofs.Common.{◌≡◌, ℕ, zero, suc, ◌+◌, ◌<◌, ◌≤◌, List, [], ◌∷◌, ◌++◌, length, map, get_or, take, Option, Some, None, refl, sym, ap, subst, ◌∙◌, append_assoc, arith}
+use Rattle.std.proofs.Common.{◌≡◌, ℕ, zero, suc, ◌+◌, ◌<◌, ◌≤◌, List, [], ◌∷◌, ◌++◌, length, map, get_or, take, Option, Some, None, refl, sym, ap, ap₂, subst, ◌∙◌, append_assoc, arith}
 use Rattle.std.specs.Prelude.{All, reverse, drop, slice_index, slice_get, flat_map, option_to_list}
 use Rattle.std.specs.List.{refill}
 use Rattle.std.proofs.lemmas.Grind.{flat_map-append}
-use Rattle.std.proofs.lemmas.List.{append-nil, length-append, length-reverse, reverse-append, reverse-reverse, take_at}
-use Rattle.std.proofs.lemmas.List.Elements.{All-append, All-nil, All-head, All-tail}
+use Rattle.std.proofs.lemmas.List.{append-nil, length-append, length-reverse, reverse-append, reverse-reverse, take_at, take_all, take_more, map-append}
+use Rattle.std.proofs.lemmas.List.Elements.{All-append, All-nil, All-push, All-head, All-tail}
 use Rattle.std.proofs.lemmas.Option.{slice_get-get_or}
 use Rattle.field_forms.specs.Facts.{IsDefined}
+use Rattle.display_list.specs.declared.node.ClipDef.{ClipDef}
 use Rattle.display_list.specs.declared.node.ChainDef.{ChainDef}
-use Rattle.display_list.specs.Facts.{AreChains, IsList}
+use Rattle.display_list.specs.Facts.{IsClip, AreChains, IsList}
 use Rattle.display_list.specs.ListModel.{ListModel}
 use Rattle.display_list.specs.Levels.{inherited, totals_of}
-use Rattle.spatial_tree.specs.Lineage.{lineage, chains_to, clip_numbers, members_at}
+use Rattle.spatial_tree.specs.Lineage.{lineage, chains_to, clip_numbers, members_at, clips_of}
+use Rattle.spatial_tree.specs.Laws.{ClipsOfNone, ClipsAfterParents, ClipForEachNumber, ClipsAreClips}
 use Rattle.spatial_tree.proofs.Lineages.{HasParentsFirst, defined_more, lineage-none, lineage-step, lineage-all}
 use Rattle.spatial_tree.proofs.Tables.{table-length, table-at, table-before}
 
@@ -144,3 +146,59 @@ gathered_all chains o numbers turned all none was is =
     let size : length turned ≡ length numbers = omega (arith, ap (λ (ks : List ℕ). length ks) is, length-reverse numbers) in
     take_at turned (drop (length turned) numbers) (length numbers) size ∙ is
     ∙ sym (ap (λ (ks : List ℕ). ks ++ reverse numbers) (ap (clip_numbers chains) none ∙ clip_numbers-none chains)) ∙ was
+
+-- what was made of the first members, and of one more
+pub made_more : {A V : Type 0} (f : A → V) (xs : List A) (numbers : List ℕ) (i : ℕ) (d : A) (made : V) (out after : List V) → i < length numbers → get_or numbers i 0 < length xs
+    → made ≡ f (get_or xs (get_or numbers i 0) d) → out ≡ map f (members_at xs (take i numbers)) → after ≡ out ++ made ∷ [] → after ≡ map f (members_at xs (take (i + 1) numbers))
+made_more f xs numbers i d made out after h w e was pushed =
+    let k = get_or numbers i 0 in
+    pushed
+    ∙ ap₂ (λ ys y. ys ++ y ∷ []) was e
+    ∙ sym (map-append f (members_at xs (take i numbers)) (get_or xs k d ∷ []))
+    ∙ ap (map f) (sym (members_at-more xs (take i numbers) k d w))
+    ∙ ap (λ ks. map f (members_at xs ks)) (sym (take_more numbers i 0 h))
+
+pub made_all : {A V : Type 0} (f : A → V) (xs : List A) (numbers : List ℕ) (i : ℕ) (out : List V) → length numbers ≤ i → out ≡ map f (members_at xs (take i numbers)) → out ≡ map f (members_at xs numbers)
+made_all f xs numbers i out h was = was ∙ ap (λ ks. map f (members_at xs ks)) (take_all i numbers h)
+
+-- each number that was gathered is that of a clip
+pub gathered_within : (clips : List ClipDef) (l : ListModel) (chain : Option ℕ) (numbers items : List ℕ) (i : ℕ) → clips ≡ l.clips → IsList l → numbers ≡ items → items ≡ clip_numbers l.chains chain
+    → i < length numbers → get_or numbers i 0 < length clips
+gathered_within clips l chain numbers items i same is e f h =
+    subst (λ (cs : List ClipDef). get_or numbers i 0 < length cs) (sym same)
+    (subst (λ (ks : List ℕ). All (λ k. k < length l.clips) ks) (sym (e ∙ f)) (clip_numbers-defined (length l.clips) l.chains chain is.chains) i 0 h)
+
+-- and such a clip meets its checks
+pub clip_within : (clips : List ClipDef) (l : ListModel) (k : ℕ) (d : ClipDef) → clips ≡ l.clips → IsList l → k < length clips → IsClip (length l.nodes + 1) (get_or clips k d)
+clip_within clips l k d same is h =
+    subst (λ (cs : List ClipDef). IsClip (length l.nodes + 1) (get_or cs k d)) (sym same) (is.clips.each k d (subst (λ (cs : List ClipDef). k < length cs) same h))
+
+-- ---- laws
+
+pub clips_none : ClipsOfNone
+unfolding clips_of
+clips_none l = ap (members_at l.clips) (clip_numbers-none l.chains)
+
+pub clips_after : ClipsAfterParents
+unfolding clips_of
+clips_after l k d is w =
+    let c = get_or l.chains k d in
+    ap (members_at l.clips) (clip_numbers-step l.chains k d is.chains.parents w)
+    ∙ flat_map-append (λ (j : ℕ). option_to_list (slice_get l.clips j)) (clip_numbers l.chains c.parent) c.clips
+
+pub clip_each : ClipForEachNumber
+unfolding clips_of
+clip_each l chain is = members_at-length l.clips (clip_numbers l.chains chain) (clip_numbers-defined (length l.clips) l.chains chain is.chains)
+
+all_members : {A : Type 0} (P : A → Type 0) (xs : List A) (numbers : List ℕ) → All P xs → All P (members_at xs numbers)
+all_members P xs [] h = All-nil P
+all_members P xs (k ∷ ks) h = All-append P (option_to_list (slice_get xs k)) (members_at xs ks) (one_of P xs k h) (all_members P xs ks h)
+  where
+    one_of : {A : Type 0} (P : A → Type 0) (xs : List A) (k : ℕ) → All P xs → All P (option_to_list (slice_get xs k))
+    one_of P [] k h = All-nil P
+    one_of P (x ∷ xs) zero h = All-push P [] x (All-nil P) (All-head P x xs h)
+    one_of P (x ∷ xs) (suc k) h = one_of P xs k (All-tail P x xs h)
+
+pub clips_are : ClipsAreClips
+unfolding clips_of
+clips_are l chain is = all_members (IsClip (length l.nodes + 1)) l.clips (clip_numbers l.chains chain) is.clips.each

@@ -78,3 +78,6 @@ sum_fits m p n near is at =
   where
     fits : (z : ℤ) → neg_ℤ (pos (2 ^ 30)) ≤ℤ z → z ≤ℤ pos (2 ^ 30) → FitsSigned w32 z
     fits z f g = search (rules, ints)
+
+pub sum_fits_by : (m : MovesModel) (p own : Point) (n : Node) → AreNearMoves m → IsNode n → IsOffset p → own ≡ shift_of m n → IsPoint (point_sum p own)
+sum_fits_by m p own n near is at e = subst (λ (q : Point). IsPoint (point_sum p q)) (sym e) (sum_fits m p n near is at)

@@ -1,7 +1,8 @@
 -- Where nodes are.
-use Rattle.std.proofs.Common.{◌≡◌, ℕ, ℤ, suc, ◌+◌, ◌-◌, ◌*◌, ◌<◌, ◌≤◌, ◌^◌, List, [], ◌∷◌, ◌++◌, length, map, get_or, refl, sym, ap, ap₂, ◌∙◌, arith}
+use Rattle.std.proofs.Common.{◌≡◌, ℕ, ℤ, suc, ◌+◌, ◌-◌, ◌*◌, ◌<◌, ◌≤◌, ◌^◌, List, [], ◌∷◌, ◌++◌, length, map, get_or, refl, sym, ap, ap₂, subst, ◌∙◌, arith}
 use Rattle.std.specs.Prelude.{fold}
 use Rattle.std.specs.List.{range_with_len}
+use Rattle.std.proofs.Math.Numerals.{add-one}
 use Rattle.std.proofs.lemmas.Int.{ints}
 use Rattle.std.proofs.lemmas.List.FromFn.{get_or-map-range_with_len, length-map-range_with_len, map-range_with_len_more}
 use Rattle.std.proofs.lemmas.List.Sums.{fold-append}
@@ -11,6 +12,7 @@ use Rattle.display_list.specs.declared.node.Node.{Node}
 use Rattle.display_list.specs.Facts.{IsNode, AreNodes}
 use Rattle.display_list.specs.Levels.{parent_of}
 use Rattle.spatial_tree.specs.Lineage.{nodes_to}
+use Rattle.spatial_tree.specs.Laws.{OffsetFromParent, TableIsNear}
 use Rattle.spatial_tree.specs.Moves.{MovesModel, AreNearMoves}
 use Rattle.spatial_tree.specs.Offsets.{IsWithin, IsOrigin, IsOffset, shift_of, offset_of, offsets_of}
 use Rattle.spatial_tree.proofs.Distances.{within_more, moved_within}
@@ -83,3 +85,50 @@ fold_moved m by at (n ∷ ns) =
 pub offset-moved : (nodes : List Node) (m : MovesModel) (by origin : Point) (node : ℕ) → offset_of nodes m (point_sum by origin) node ≡ point_sum by (offset_of nodes m origin node)
 unfolding offset_of
 offset-moved nodes m by origin node = fold_moved m by origin (nodes_to nodes node)
+
+-- ---- filling the table
+
+-- the table has a node's parent
+pub parent_in : (nodes : List Node) (m : MovesModel) (origin : Point) (table : List Point) (i parent : ℕ) (d : Node) → AreOrdered nodes → i < length nodes
+    → parent ≡ parent_of (get_or nodes i d) → table ≡ map (offset_of nodes m origin) (range_with_len 0 (i + 1)) → parent < length table
+parent_in nodes m origin table i parent d h w e was =
+    let le = h i d w in
+    let size = ap (λ (ps : List Point). length ps) was ∙ length-map-range_with_len (offset_of nodes m origin) 0 (i + 1) in
+    omega (arith, le, e, size)
+
+pub parent_low : (nodes : List Node) (i parent : ℕ) (d : Node) → AreOrdered nodes → i < length nodes → parent ≡ parent_of (get_or nodes i d) → parent ≤ length nodes
+parent_low nodes i parent d h w e = let le = h i d w in omega (arith, le, e)
+
+-- and gives its offset
+pub parent_of_table : (nodes : List Node) (m : MovesModel) (origin : Point) (table : List Point) (i parent : ℕ) (d : Node) (above e : Point) → AreOrdered nodes → i < length nodes
+    → parent ≡ parent_of (get_or nodes i d) → table ≡ map (offset_of nodes m origin) (range_with_len 0 (i + 1)) → above ≡ get_or table parent e → above ≡ offset_of nodes m origin parent
+parent_of_table nodes m origin table i parent d above e h w f was is =
+    let le = h i d w in
+    is ∙ ap (λ (ps : List Point). get_or ps parent e) was ∙ get_or-map-range_with_len (offset_of nodes m origin) 0 (i + 1) parent parent e (omega (arith, le, f)) (omega arith)
+
+-- one node more
+pub table_more : (nodes : List Node) (m : MovesModel) (origin : Point) (table after : List Point) (i parent : ℕ) (d : Node) (above own sum : Point) → AreOrdered nodes → i < length nodes
+    → parent ≡ parent_of (get_or nodes i d) → table ≡ map (offset_of nodes m origin) (range_with_len 0 (i + 1)) → above ≡ offset_of nodes m origin parent
+    → own ≡ shift_of m (get_or nodes i d) → sum ≡ point_sum above own → after ≡ table ++ sum ∷ [] → after ≡ map (offset_of nodes m origin) (range_with_len 0 (i + 1 + 1))
+table_more nodes m origin table after i parent d above own sum h w e was f g is pushed =
+    let n : Node = get_or nodes i d in
+    let here : sum ≡ offset_of nodes m origin (suc i) =
+    is ∙ ap (λ (q : Point). point_sum above q) g ∙ ap (λ (q : Point). point_sum q (shift_of m n)) (f ∙ ap (offset_of nodes m origin) e) ∙ sym (offset-step nodes m origin i d h w) in
+    pushed ∙ ap₂ (λ (ps : List Point) (p : Point). ps ++ p ∷ []) was here ∙ sym (map-range_with_len_more (offset_of nodes m origin) 0 (i + 1) (suc i) (omega arith))
+
+pub table_all : (here nodes : List Node) (m : MovesModel) (origin : Point) (table : List Point) (i : ℕ) → here ≡ nodes → i ≤ length here → length here ≤ i
+    → table ≡ map (offset_of here m origin) (range_with_len 0 (i + 1)) → table ≡ offsets_of nodes m origin
+unfolding offsets_of
+table_all here nodes m origin table i same h k was =
+    let e : i ≡ length here = omega arith in
+    was ∙ ap (λ (n : ℕ). map (offset_of here m origin) (range_with_len 0 (n + 1))) e ∙ ap (λ (ns : List Node). map (offset_of ns m origin) (range_with_len 0 (length ns + 1))) same
+
+-- ---- laws
+
+pub from_parent : OffsetFromParent
+from_parent l m origin k d is w = ap (offset_of l.nodes m origin) (add-one k) ∙ offset-step l.nodes m origin k d is.nodes.parents w
+
+pub near_table : TableIsNear
+near_table l m origin is near h k d w =
+    let low : k ≤ length l.nodes = omega (arith, w, table-size l.nodes m origin) in
+    subst IsOffset (sym (table-has l.nodes m origin k d low)) (offset-near l.nodes m origin k is.nodes near h low)

@@ -43,9 +43,10 @@ pub fn homes(alloc: Global, list: &List, chain: Option<u16>) -> Result<Vec<Optio
     ensures { IfOk result (λ homes. homes.items ≡ homes_of list.now chain) }
 {
     let clips = list.clips();
-    let numbers = chain_clips(list, chain);
-    let mut homes = Vec::with_capacity(alloc, numbers.as_slice().len())?;
-    for number in numbers.as_slice() {
+    let gathered = chain_clips(list, chain);
+    let numbers = gathered.as_slice();
+    let mut homes = Vec::with_capacity(alloc, numbers.len())?;
+    for number in numbers {
         homes.push(root_scroll(list, clips[*number as usize].node))?;
     }
     Ok(homes)

@@ -1,5 +1,7 @@
-use Rattle.std.proofs.Common.{subst, sym, ap, ◌∙◌, arith}
+use Rattle.std.proofs.Common.{◌<◌, ◌-◌, length, subst, sym, ap, ◌∙◌, arith}
+use Rattle.display_list.specs.Facts.{AreNodes}
 use Rattle.spatial_tree.specs.Offsets.{IsOffset, offset_of}
+use Rattle.spatial_tree.proofs.Distances.{sum_fits_by}
 use Rattle.spatial_tree.proofs.Places.{offset-root, offset_via, offset-near}
 use Rattle.spatial_tree.proofs.offset.+node_offset.Goals as goal
 
@@ -15,3 +17,9 @@ pub returns-clause-near : goal.returns-clause-near
 returns-clause-near t c =
     subst IsOffset (sym (returns-clause-value t c))
     (offset-near c.args.list.now.nodes c.args.moves.now c.args.origin c.args.node c.nodes.ensures.list.nodes c.shift.ensures.near c.requires.origin c.requires.node)
+
+pub plus-requires : goal.plus-requires
+plus-requires t c =
+    let are = subst AreNodes (sym c.nodes.ensures.value) c.nodes.ensures.list.nodes in
+    let here : c.args.node - 1 < length c.nodes.result.now = omega (arith, c.requires.node, ap (λ ns. length ns) c.nodes.ensures.value) in
+    sum_fits_by c.args.moves.now c.node_offset.result c.shift.result _ c.shift.ensures.near (are.each (c.args.node - 1) _ here) c.node_offset.ensures.near c.shift.ensures.value
