@@ -1,0 +1,44 @@
+//! Where nodes are.
+
+ghost use Rattle.std.specs.Prelude.{◌≡◌, ◌≤◌, length, IfOk};
+ghost use Rattle.spatial_tree.specs.Offsets.{IsOrigin, IsOffset, offset_of, offsets_of};
+
+use super::Moves;
+use display_list::List;
+use std::alloc::Global;
+use wr_geom::{NoMemory, Point};
+
+/// The offset of each node by its number, the root's first, in pixels: where the node is, if the root is at
+/// `origin`, which is at most 2^28 pixels from (0, 0) on each axis.
+pub fn offsets(
+    alloc: Global,
+    list: &List,
+    moves: &Moves,
+    origin: Point,
+) -> Result<Vec<Point>, NoMemory>
+    requires { IsOrigin origin }
+    ensures { IfOk result (λ table. table.items ≡ offsets_of list.now.nodes moves.now origin) }
+{
+    let nodes = list.nodes();
+    let mut table = Vec::with_capacity(alloc, nodes.len() + 1)?;
+    table.push(origin)?;
+    for node in nodes {
+        let parent = table[node.parent() as usize];
+        table.push(parent.plus(moves.shift(*node)))?;
+    }
+    Ok(table)
+}
+
+/// The offset of one node, as `offsets` gives it. It takes no memory.
+pub fn node_offset(list: &List, moves: &Moves, origin: Point, node: u16) -> Point
+    requires origin { IsOrigin origin }
+    requires node { node ≤ length list.now.nodes }
+    ensures value { result ≡ offset_of list.now.nodes moves.now origin node }
+    ensures near { IsOffset result }
+{
+    if node == 0 {
+        return origin;
+    }
+    let below = list.nodes()[node as usize - 1];
+    node_offset(list, moves, origin, below.parent()).plus(moves.shift(below))
+}
