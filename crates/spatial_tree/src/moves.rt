@@ -7,19 +7,20 @@ ghost use Rattle.display_list.specs.Facts.{IsNode};
 ghost use Rattle.spatial_tree.specs.Moves.{AreNearMoves};
 ghost use Rattle.spatial_tree.specs.Offsets.{IsWithin, distance_of, property_of, clamped, shift_of};
 
-use containers::{Exact, NumberMap};
+use containers::{Exact, NumberMap, Shared};
 use display_list::Node;
 use std::alloc::{AllocError, Global};
 use std::marker::Model;
 use wr_geom::{NoMemory, Point};
 
 /// The positions of scroll numbers, and the offset and opacity properties, each by its number. Positions
-/// and offsets are in pixels, within ±1,048,576.
+/// and offsets are in pixels, within ±1,048,576. A clone shares each of the three until one of its owners
+/// writes to it.
 #[derive(Drop)]
 pub struct Moves {
-    scrolls: NumberMap<(i32, i32)>,
-    offsets: NumberMap<(i32, i32)>,
-    opacities: NumberMap<u8>,
+    scrolls: Shared<NumberMap<(i32, i32)>>,
+    offsets: Shared<NumberMap<(i32, i32)>>,
+    opacities: Shared<NumberMap<u8>>,
 }
 
 impl Model for Moves {
@@ -40,9 +41,9 @@ impl Moves {
         ensures { result ≡ record { scrolls = map.empty; offsets = map.empty; opacities = map.empty } }
     {
         Moves {
-            scrolls: NumberMap::new(alloc),
-            offsets: NumberMap::new(alloc),
-            opacities: NumberMap::new(alloc),
+            scrolls: Shared::new(alloc, NumberMap::new(alloc)),
+            offsets: Shared::new(alloc, NumberMap::new(alloc)),
+            opacities: Shared::new(alloc, NumberMap::new(alloc)),
         }
     }
 
@@ -51,7 +52,7 @@ impl Moves {
         ensures value { result.now ≡ self.now.scrolls }
         ensures near { AreNearMoves self.now }
     {
-        &self.scrolls
+        self.scrolls.get()
     }
 
     /// The offset properties, by their number.
@@ -59,14 +60,14 @@ impl Moves {
         ensures value { result.now ≡ self.now.offsets }
         ensures near { AreNearMoves self.now }
     {
-        &self.offsets
+        self.offsets.get()
     }
 
     /// The opacity properties, by their number.
     pub fn opacities(&self) -> &NumberMap<u8>
         ensures { result.now ≡ self.now.opacities }
     {
-        &self.opacities
+        self.opacities.get()
     }
 
     /// The position of a scroll number, or none where none is stored.
@@ -74,7 +75,7 @@ impl Moves {
         ensures value { result ≡ map.get self.now.scrolls sid }
         ensures near { AreNearMoves self.now }
     {
-        self.scrolls.get(sid as u32).copied()
+        self.scrolls.get().get(sid as u32).copied()
     }
 
     /// An offset property, or none where it isn't set.
@@ -82,14 +83,14 @@ impl Moves {
         ensures value { result ≡ map.get self.now.offsets id }
         ensures near { AreNearMoves self.now }
     {
-        self.offsets.get(id as u32).copied()
+        self.offsets.get().get(id as u32).copied()
     }
 
     /// An opacity property, or none where it isn't set.
     pub fn opacity(&self, id: u16) -> Option<u8>
         ensures { result ≡ map.get self.now.opacities id }
     {
-        self.opacities.get(id as u32).copied()
+        self.opacities.get().get(id as u32).copied()
     }
 
     /// How far a node is moved against its parent, in pixels.
@@ -136,7 +137,7 @@ impl Moves {
     pub fn is_empty(&self) -> bool
         ensures { IsTrue result ↔ (self.now ≡ record { scrolls = map.empty; offsets = map.empty; opacities = map.empty }) }
     {
-        self.scrolls.is_empty() && self.offsets.is_empty() && self.opacities.is_empty()
+        self.scrolls().is_empty() && self.offsets().is_empty() && self.opacities().is_empty()
     }
 
     /// Stores the position of a scroll number, in pixels within ±1,048,576, as it is.
@@ -146,7 +147,7 @@ impl Moves {
         ensures ok { OnOk result (self.new ≡ record self.old { scrolls = map.insert self.old.scrolls sid (x, y) }) }
         ensures err { OnErr result (self.new ≡ self.old) }
     {
-        self.scrolls.insert(sid as u32, (x, y))?;
+        insert(&mut self.scrolls, sid, (x, y))?;
         Ok(())
     }
 
@@ -157,7 +158,7 @@ impl Moves {
         ensures ok { OnOk result (self.new ≡ record self.old { offsets = map.insert self.old.offsets id (x, y) }) }
         ensures err { OnErr result (self.new ≡ self.old) }
     {
-        self.offsets.insert(id as u32, (x, y))?;
+        insert(&mut self.offsets, id, (x, y))?;
         Ok(())
     }
 
@@ -166,9 +167,21 @@ impl Moves {
         ensures ok { OnOk result (self.new ≡ record self.old { opacities = map.insert self.old.opacities id opacity }) }
         ensures err { OnErr result (self.new ≡ self.old) }
     {
-        self.opacities.insert(id as u32, opacity)?;
+        insert(&mut self.opacities, id, opacity)?;
         Ok(())
     }
+}
+
+/// Puts a value at a number into a map that may have other owners, which keep theirs.
+fn insert<V: Exact + Drop>(
+    values: &mut Shared<NumberMap<V>>,
+    key: u16,
+    value: V,
+) -> Result<(), AllocError>
+    ensures ok { OnOk result (values.new ≡ map.insert values.old key value) }
+    ensures err { OnErr result (values.new ≡ values.old) }
+{
+    values.write()?.insert(key as u32, value)
 }
 
 /// A distance that may be stored.
@@ -197,9 +210,9 @@ impl Clone for Moves {
 
     fn clone(&self) -> Result<Moves, AllocError> {
         Ok(Moves {
-            scrolls: self.scrolls.clone()?,
-            offsets: self.offsets.clone()?,
-            opacities: self.opacities.clone()?,
+            scrolls: self.scrolls.share()?,
+            offsets: self.offsets.share()?,
+            opacities: self.opacities.share()?,
         })
     }
 }
