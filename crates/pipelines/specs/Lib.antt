@@ -1,0 +1,3 @@
+pub mod Listed
+pub mod Table
+pub mod Changes

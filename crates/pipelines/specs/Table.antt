@@ -1,0 +1,43 @@
+-- What each pipeline has, by its number.
+use Rattle.std.specs.Prelude.{◌≡◌, ℕ, Option, Some, None}
+use Rattle.std.specs.Ordering.{nat_cmp}
+use Rattle.std.specs.FinMap as map
+use Rattle.display_list.specs.ListModel.{ListModel}
+use Rattle.display_list.specs.Facts.{IsList}
+use Rattle.display_list.specs.Grammar.{Fits}
+use Rattle.pipelines.specs.Listed.{ListedModel}
+use Rattle.pipelines.specs.declared.pipeline.Pipeline.{Pipeline}
+
+-- those that have something
+abbrev pub PipelineMap : Type 0
+PipelineMap = map.FinMap nat_cmp Pipeline
+
+-- neither a list nor a position nor a property
+abbrev pub blank_pipeline : Pipeline
+blank_pipeline = record { listed = None; moves = record { scrolls = map.empty; offsets = map.empty; opacities = map.empty } }
+
+-- what is there, or else nothing
+abbrev pub or_blank : Option Pipeline → Pipeline
+or_blank None = blank_pipeline
+or_blank (Some has) = has
+
+-- what a pipeline has
+abbrev pub pipeline_at : PipelineMap → ℕ → Pipeline
+pipeline_at pipelines p = or_blank (map.get pipelines p)
+
+-- a pipeline's list, where it has one
+abbrev pub list_of : Option ListedModel → Option ListModel
+list_of None = None
+list_of (Some listed) = Some listed.list
+
+abbrev pub list_at : PipelineMap → ℕ → Option ListModel
+list_at pipelines p = list_of (pipeline_at pipelines p).listed
+
+-- it meets the checks of lists, and names greater pipelines than its own
+pub record IsListOf (p : ℕ) (l : ListModel) : Type 0 where
+  pub list : IsList l
+  pub fits : Fits p l
+
+-- each pipeline's list fits it
+pub record AreFit (pipelines : PipelineMap) : Type 0 where
+  pub each : (p : ℕ) (l : ListModel) → list_at pipelines p ≡ Some l → IsListOf p l
