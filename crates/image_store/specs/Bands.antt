@@ -66,7 +66,7 @@ pub record AreImageBands (w h : ℕ) (bands : List (List Px)) : Type 0 where
   pub wide : IsSide w
   pub high : IsSide h
   pub banded : AreBands (64 * w) (h * w) bands
-  pub pixels : (k : ℕ) → HasPixels (band_at bands k)
+  pub sound : (k : ℕ) → HasPixels (band_at bands k)
 
 -- an image with colours written into a row from a column on
 abbrev pub with_row : ℕ → ℕ → List Px → ImageModel → ImageModel

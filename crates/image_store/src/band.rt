@@ -57,6 +57,7 @@ impl Band {
 
     /// The colour at an index.
     
+    #[tactic(auto, using(crate::proofs::Weaving::weaving))]
     pub(crate) fn texel(&self, i: usize) -> Px
         requires { i < length self.now }
         ensures { result ≡ nth_pixel self.now i }
@@ -71,6 +72,7 @@ impl Band {
 
     /// The bytes of a plane.
     
+    #[tactic(auto, using(crate::proofs::Weaving::weaving))]
     pub(crate) fn plane(&self, plane: Plane) -> &[u8]
         ensures len { length result.now ≡ length self.now }
         ensures bytes { (i : ℕ) → i < length self.now → slice_index result.now i ≡ channel plane (nth_pixel self.now i) }
@@ -92,6 +94,7 @@ impl Band {
 
     /// Writes the colours that interleaved bytes spell from an index on.
     
+    #[tactic(auto, using(crate::proofs::Weaving::weaving))]
     pub(crate) fn write(&mut self, at: usize, bytes: &[u8])
         requires whole { length bytes.now ≡ 4 * (length bytes.now / 4) }
         requires room { at + length bytes.now / 4 ≤ length self.old }

@@ -1,0 +1,17 @@
+pub mod Places
+pub mod Lists
+pub mod Weaving
+pub mod Splitting
+pub mod OpaqueCounts
+pub mod Checking
+pub mod Bands
+pub mod NewBands
+pub mod Banding
+pub mod Sharing
+pub mod Rows
+pub mod Begun
+pub mod Patching
+pub mod Whole
+pub mod Refusals
+pub mod Sums
+pub mod Keys
