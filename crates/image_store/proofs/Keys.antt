@@ -1,5 +1,5 @@
 -- Images without those of some keys.
-use Rattle.std.proofs.Common.{◌≡◌, ℕ, ◌+◌, ◌≤◌, Bool, true, false, ◌||◌, cond, eqb, Option, Some, None, List, [], ◌∷◌, ◌++◌, length, subst, sym, ap, refl, ◌∙◌, arith}
+use Rattle.std.proofs.Common.{◌≡◌, ℕ, ◌+◌, ◌≤◌, Bool, true, false, ◌||◌, cond, eqb, Some, None, List, [], ◌∷◌, ◌++◌, length, subst, sym, ap, refl, ◌∙◌, arith}
 use Rattle.std.proofs.lemmas.Bool.{eqb-true, eq-eqb}
 use Rattle.std.proofs.lemmas.Map.Views.{tells_apart}
 use Rattle.std.specs.List.{list_any}
@@ -10,7 +10,7 @@ use Rattle.std.specs.FinMap as map
 use Rattle.image_store.specs.Models.{ImageModel, MaskModel, IsImage, IsMask, image_area, mask_area}
 use Rattle.image_store.specs.Keyed.{without_keys, AreKeyed, AreKeyedMasks}
 use Rattle.image_store.specs.StoreModel.{Images, Masks, sum_of}
-use Rattle.image_store.proofs.Sums.{sum-empty, len-removed, remove_none}
+use Rattle.image_store.proofs.Sums.{sum-empty, len-removed}
 
 swapped : {A : Type 0} (b c : Bool) (n x : A) → cond b n (cond c n x) ≡ cond c n (cond b n x)
 swapped true true n x = refl
@@ -56,7 +56,7 @@ get_without m (x ∷ xs) k =
     ∙ either (eqb x k) (list_any (λ y. eqb y k) xs) None (map.get m k)
 
 -- ---- what is kept with them
-none_is_some : {A : Type 0} (x : A) {B : Type 0} → None ≡ Some x → B
+pub none_is_some : {A : Type 0} (x : A) {B : Type 0} → None ≡ Some x → B
 none_is_some x e = absurd (cc)
 
 keyed_none : (capacity : ℕ) → AreKeyed map.empty [] capacity 0 0

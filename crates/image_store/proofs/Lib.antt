@@ -13,5 +13,9 @@ pub mod Begun
 pub mod Patching
 pub mod Whole
 pub mod Refusals
+pub mod Maps
 pub mod Sums
+pub mod Lookups
+pub mod PairOrderLaws
 pub mod Keys
+pub mod Stored

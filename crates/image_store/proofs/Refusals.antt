@@ -1,5 +1,5 @@
 -- Refusals that are passed on.
-use Rattle.std.proofs.Common.{ℕ, ◌≤◌, ◌<◌, arith}
+use Rattle.std.proofs.Common.{ℕ, ◌≤◌, arith}
 use Rattle.image_store.specs.Outcome.{NamesTexelBelow}
 use Rattle.image_store.specs.declared.error.StoreError.{StoreError}
 use Rattle.image_store.specs.declared.error.StoreError.TheVariants as errors

@@ -1,12 +1,13 @@
 -- Sums over the values of a map.
-use Rattle.std.proofs.Common.{◌≡◌, ℕ, ◌+◌, Bool, true, false, ◌&&◌, T, cond, Option, Some, None, Ordering, Less, Equal, Greater, List, [], ◌∷◌, is_some, subst, sym, ap, refl, ◌∙◌, arith}
+use Rattle.std.proofs.Common.{Bor, map, min, ◌^◌, ◌-◌, ◌≡◌, ℕ, ◌+◌, Bool, true, false, ◌&&◌, T, cond, Some, None, Ordering, Less, Equal, Greater, List, [], ◌∷◌, is_some, subst, sym, ap, refl, ◌∙◌, arith}
 use Rattle.std.proofs.lemmas.List.Sums.{sum_by-cons}
-use Rattle.std.proofs.lemmas.Map.Views.{tells_apart}
-use Rattle.std.specs.Cmp.{IsTotalOrder, tied_itself}
-use Rattle.std.specs.FinMap.{FinMap, IsAntisymmetric, get, insert, remove, empty, entries, find, is_sorted, len, len-insert, entries_sorted, get-entries, entries-insert, entries-from_sorted, from_sorted, get-insert, get-remove, get-empty, get-from_sorted, same_map}
+use Rattle.std.specs.Cmp.{IsTotalOrder}
+use Rattle.std.specs.FinMap.{FinMap, IsAntisymmetric, get, insert, remove, empty, entries, find, is_sorted, len, len-insert, entries_sorted, get-entries, entries-insert, entries-from_sorted, from_sorted, get-empty, get-from_sorted, same_map}
 use Rattle.std.specs.FinMap.Entries.{put, below_all, by_order}
 use Rattle.std.specs.List.{sum_by}
-use Rattle.std.specs.Ordering.{eq_by_cmp, is_eq, is_lt}
+use Rattle.std.specs.Map.Iter.{deref_pair}
+use Rattle.std.specs.Ordering.{is_eq, is_lt}
+use Rattle.image_store.proofs.Maps.{gone, insert_removed, insert_same}
 use Rattle.image_store.specs.Keyed.{counted_at}
 use Rattle.image_store.specs.StoreModel.{sum_of}
 
@@ -72,35 +73,6 @@ module _ {K X : Type 0} (R : K → K → Ordering) (o : IsTotalOrder R) (f : X �
       ∙ total_put k v (entries m) (entries_sorted m)
 
   module _ (exact : IsAntisymmetric R) where
-    kept : (q k : K) (m : FinMap R X) (v : X) → get m k ≡ Some v → (b : Bool) → eq_by_cmp R q k ≡ b → cond b (Some v) (get m q) ≡ get m q
-    kept q k m v h true e = sym (ap (get m) (tells_apart exact q k e) ∙ h)
-    kept q k m v h false e = refl
-
-    kept_none : (q k : K) (m : FinMap R X) → get m k ≡ None → (b : Bool) → eq_by_cmp R q k ≡ b → cond b None (get m q) ≡ get m q
-    kept_none q k m h true e = sym (ap (get m) (tells_apart exact q k e) ∙ h)
-    kept_none q k m h false e = refl
-
-    twice : {A : Type 0} (b : Bool) (x y z : A) → cond b x (cond b y z) ≡ cond b x z
-    twice true x y z = refl
-    twice false x y z = refl
-
-    gone : (m : FinMap R X) (k : K) → get (remove m k) k ≡ None
-    gone m k = get-remove o m k k ∙ ap (λ r. cond (is_eq r) None (get m k)) (tied_itself o k)
-
-    pub remove_none : (m : FinMap R X) (k : K) → get m k ≡ None → remove m k ≡ m
-    remove_none m k h = same_map o exact _ _ (λ q. get-remove o m k q ∙ kept_none q k m h (eq_by_cmp R q k) refl)
-
-    pub insert_same : (m : FinMap R X) (k : K) (v : X) → get m k ≡ Some v → insert m k v ≡ m
-    insert_same m k v h = same_map o exact _ _ (λ q. get-insert o m k v q ∙ kept q k m v h (eq_by_cmp R q k) refl)
-
-    pub insert_removed : (m : FinMap R X) (k : K) (v : X) → insert (remove m k) k v ≡ insert m k v
-    insert_removed m k v = same_map o exact _ _ (λ q.
-        get-insert o (remove m k) k v q ∙ ap (cond (eq_by_cmp R q k) (Some v)) (get-remove o m k q) ∙ twice (eq_by_cmp R q k) (Some v) None (get m q) ∙ sym (get-insert o m k v q))
-
-    pub remove_inserted : (m : FinMap R X) (k : K) (v : X) → remove (insert m k v) k ≡ remove m k
-    remove_inserted m k v = same_map o exact _ _ (λ q.
-        get-remove o (insert m k v) k q ∙ ap (cond (eq_by_cmp R q k) None) (get-insert o m k v q) ∙ twice (eq_by_cmp R q k) None (Some v) (get m q) ∙ sym (get-remove o m k q))
-
     pub sum-empty : sum_of f (empty {X = X} {R = R}) ≡ 0
     sum-empty = ap total (ap entries (same_map o exact empty (from_sorted []) (λ q. get-empty R q ∙ sym (get-from_sorted R [] q tt))) ∙ entries-from_sorted R [] tt)
 
@@ -108,15 +80,25 @@ module _ {K X : Type 0} (R : K → K → Ordering) (o : IsTotalOrder R) (f : X �
     pub sum-inserted : (m : FinMap R X) (k : K) (v : X) → sum_of f (insert m k v) ≡ sum_of f (remove m k) + f v
     sum-inserted m k v =
         let i = sum-insert (remove m k) k v in
-        let n : counted_at f (get (remove m k) k) ≡ 0 = ap (counted_at f) (gone m k) in
-        let b : sum_of f (insert (remove m k) k v) ≡ sum_of f (insert m k v) = ap (sum_of f) (insert_removed m k v) in
+        let n : counted_at f (get (remove m k) k) ≡ 0 = ap (counted_at f) (gone o exact m k) in
+        let b : sum_of f (insert (remove m k) k v) ≡ sum_of f (insert m k v) = ap (sum_of f) (insert_removed o exact m k v) in
         omega arith
 
     pub len-inserted : (m : FinMap R X) (k : K) (v : X) → len (insert m k v) ≡ len (remove m k) + 1
-    len-inserted m k v = ap len (sym (insert_removed m k v)) ∙ len-insert o (remove m k) k v ∙ ap (λ r. cond (is_some r) (len (remove m k)) (len (remove m k) + 1)) (gone m k)
+    len-inserted m k v = ap len (sym (insert_removed o exact m k v)) ∙ len-insert o (remove m k) k v ∙ ap (λ r. cond (is_some r) (len (remove m k)) (len (remove m k) + 1)) (gone o exact m k)
 
     pub sum-removed : (m : FinMap R X) (k : K) (v : X) → get m k ≡ Some v → sum_of f (remove m k) + f v ≡ sum_of f m
-    sum-removed m k v h = sym (sum-inserted m k v) ∙ ap (sum_of f) (insert_same m k v h)
+    sum-removed m k v h = sym (sum-inserted m k v) ∙ ap (sum_of f) (insert_same o exact m k v h)
 
     pub len-removed : (m : FinMap R X) (k : K) (v : X) → get m k ≡ Some v → len (remove m k) + 1 ≡ len m
-    len-removed m k v h = sym (len-inserted m k v) ∙ ap len (insert_same m k v h)
+    len-removed m k v h = sym (len-inserted m k v) ∙ ap len (insert_same o exact m k v h)
+
+-- a sum over what was read of a map's entries
+pub sum_read : {K X : Type 0} (f : X → ℕ) (items : List (Bor K × Bor X)) → sum_by (λ (y : Bor K × Bor X). f y.1.now) items ≡ sum_by (λ (e : K × X). f e.1) (map deref_pair items)
+sum_read f [] = refl
+sum_read {K} {X} f (y ∷ ys) =
+    sum_by-cons (λ (y : Bor K × Bor X). f y.1.now) y ys ∙ ap (λ n. f y.1.now + n) (sum_read f ys) ∙ sym (sum_by-cons (λ (e : K × X). f e.1) (deref_pair y) (map deref_pair ys))
+
+-- a sum that is held at a cap goes on as the whole sum does
+pub capped : (next now more sum all : ℕ) → next ≡ min (now + more) (2 ^ 64 - 1) → now ≡ min (2 ^ 64 - 1) sum → {x : ℕ} → more ≡ x → all ≡ sum + x → next ≡ min (2 ^ 64 - 1) all
+capped next now more sum all n m {x} e a = omega arith

@@ -56,7 +56,7 @@ impl Band {
     }
 
     /// The colour at an index.
-    
+
     #[tactic(auto, using(crate::proofs::Weaving::weaving))]
     pub(crate) fn texel(&self, i: usize) -> Px
         requires { i < length self.now }
@@ -71,7 +71,7 @@ impl Band {
     }
 
     /// The bytes of a plane.
-    
+
     #[tactic(auto, using(crate::proofs::Weaving::weaving))]
     pub(crate) fn plane(&self, plane: Plane) -> &[u8]
         ensures len { length result.now ≡ length self.now }
@@ -93,7 +93,7 @@ impl Band {
     }
 
     /// Writes the colours that interleaved bytes spell from an index on.
-    
+
     #[tactic(auto, using(crate::proofs::Weaving::weaving))]
     pub(crate) fn write(&mut self, at: usize, bytes: &[u8])
         requires whole { length bytes.now ≡ 4 * (length bytes.now / 4) }

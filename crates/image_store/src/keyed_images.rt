@@ -83,6 +83,7 @@ impl KeyedImages {
     pub(crate) fn insert(&mut self, key: u32, image: Image) -> Result<(), AllocError>
         ensures ok { OnOk result (self.new ≡ map.insert self.old key image) }
         ensures err { OnErr result (self.new ≡ self.old) }
+        ensures image { OnOk result (IsImage image) }
     {
         let (count, area) = self.counts_with(key, &image)?;
         self.gone.reserve(count)?;

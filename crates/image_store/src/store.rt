@@ -112,7 +112,13 @@ impl Store {
             Ok(image) => image,
             Err(error) => return Err(error),
         };
-        put_image(self.alloc, &mut self.images, u32::from(pipeline), key, image)?;
+        put_image(
+            self.alloc,
+            &mut self.images,
+            u32::from(pipeline),
+            key,
+            image,
+        )?;
         gens.give(generation);
         Ok(())
     }

@@ -1,6 +1,6 @@
-use Rattle.std.proofs.Common.{◌≡◌, ◌≤◌, ◌+◌, [], length, sym, ap, subst, ◌∙◌, arith}
+use Rattle.std.proofs.Common.{◌≤◌, sym, ap, ◌∙◌, arith}
 use Rattle.std.specs.FinMap as map
-use Rattle.image_store.specs.Models.{IsImage, image_area}
+use Rattle.image_store.specs.Models.{image_area}
 use Rattle.image_store.specs.Keyed.{without_keys}
 use Rattle.image_store.specs.StoreModel.{sum_of}
 use Rattle.image_store.proofs.Keys.{keyed_kept, keyed_settled, keyed_inserted}

@@ -1,11 +1,8 @@
-use Rattle.std.proofs.Common.{◌≡◌, ◌+◌, sym, ap, ◌∙◌, arith}
+use Rattle.std.proofs.Common.{arith}
 use Rattle.std.specs.Cmp.{nat_cmp_total}
 use Rattle.std.specs.Ordering.{nat_cmp}
-use Rattle.std.specs.Option.{option_copied}
 use Rattle.std.specs.FinMap as map
-use Rattle.image_store.specs.Models.{image_area, mask_area}
-use Rattle.image_store.specs.Keyed.{without_keys}
-use Rattle.image_store.specs.StoreModel.{sum_of}
+use Rattle.image_store.specs.Models.{mask_area}
 use Rattle.image_store.proofs.Sums.{sum-inserted}
 use Rattle.image_store.proofs.keyed_masks.KeyedMasks.area_with.Goals as goal
 
