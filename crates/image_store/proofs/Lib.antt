@@ -19,3 +19,6 @@ pub mod Lookups
 pub mod PairOrderLaws
 pub mod Keys
 pub mod Stored
+pub mod LookupLaws
+pub mod Steps
+pub mod ImageLaws
