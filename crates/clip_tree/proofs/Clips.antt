@@ -1,8 +1,8 @@
 -- Laws of placed clips.
-use Rattle.std.proofs.Common.{◌≡◌, ℕ, zero, suc, ◌+◌, ◌<◌, ◌≤◌, ℤ, ◌+ℤ◌, List, [], ◌∷◌, ◌++◌, length, map, get_or, take, Option, Some, None, refl, sym, ap, ap₂, subst, ◌∙◌, append_assoc, arith}
+use Rattle.std.proofs.Common.{◌≡◌, ℕ, ◌+◌, ◌<◌, ◌≤◌, ℤ, ◌+ℤ◌, List, [], ◌∷◌, ◌++◌, length, map, get_or, take, Option, Some, None, refl, sym, ap, ap₂, subst, ◌∙◌, append_assoc, arith}
 use Rattle.std.specs.Prelude.{All}
 use Rattle.std.proofs.lemmas.Int.{ints}
-use Rattle.std.proofs.lemmas.List.{append-nil, length-map, map-append}
+use Rattle.std.proofs.lemmas.List.{append-nil, get_or_default, length-map, map-append}
 use Rattle.std.proofs.lemmas.List.Elements.{All-head, All-tail}
 use Rattle.wr_geom.specs.Bounds.{Bounds, shifted}
 use Rattle.wr_geom.specs.Points.{point_sum}
@@ -80,11 +80,6 @@ clip_of_more m n c le is = record { node = record { defined = omega (arith, is.n
 pub few_nodes : (l : ListModel) → IsList l → length l.nodes + 1 ≤ 65535
 few_nodes l is = omega (arith, is.nodes.count)
 
--- inside a list any default serves
-default_free : (ps : List Point) (k : ℕ) (d e : Point) → k < length ps → get_or ps k d ≡ get_or ps k e
-default_free [] k d e h = absurd (omega arith)
-default_free (p ∷ ps) zero d e h = refl
-default_free (p ∷ ps) (suc k) d e h = default_free ps k d e (omega arith)
-
+-- a table serves with any default
 pub placed_in_table : (offsets : List Point) (d : Point) (c : ClipDef) (clip : Clip) → c.node < length offsets → clip ≡ shifted_clip (clip_of c) (get_or offsets c.node d) → clip ≡ placed_clip (in_table offsets) c
-placed_in_table offsets d c clip h is = is ∙ ap (shifted_clip (clip_of c)) (default_free offsets c.node d no_distance h)
+placed_in_table offsets d c clip h is = is ∙ ap (shifted_clip (clip_of c)) (get_or_default offsets c.node d no_distance h)

@@ -1,5 +1,6 @@
 //! Lists and moves that the tests share.
 
+mod clips;
 mod homes;
 mod offsets;
 mod stored;
