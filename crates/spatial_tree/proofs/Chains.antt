@@ -140,12 +140,16 @@ gathered_more above own before after all e was =
     ∙ sym (append_assoc above own (reverse before))
     ∙ was
 
-pub gathered_all : (chains : List ChainDef) (o : Option ℕ) (numbers turned all : List ℕ) → o ≡ None → clip_numbers chains o ++ reverse numbers ≡ all → turned ≡ reverse numbers
-    → refill (length numbers) numbers turned ≡ all
+pub gathered_all : (chains : List ChainDef) (o : Option ℕ) (numbers turned all : List ℕ) → o ≡ None → clip_numbers chains o ++ reverse numbers ≡ all → turned ≡ reverse numbers → turned ≡ all
 gathered_all chains o numbers turned all none was is =
-    let size : length turned ≡ length numbers = omega (arith, ap (λ (ks : List ℕ). length ks) is, length-reverse numbers) in
-    take_at turned (drop (length turned) numbers) (length numbers) size ∙ is
-    ∙ sym (ap (λ (ks : List ℕ). ks ++ reverse numbers) (ap (clip_numbers chains) none ∙ clip_numbers-none chains)) ∙ was
+    is ∙ sym (ap (λ (ks : List ℕ). ks ++ reverse numbers) (ap (clip_numbers chains) none ∙ clip_numbers-none chains)) ∙ was
+
+-- members that are all written again
+pub refilled : (n : ℕ) (numbers turned old : List ℕ) → n ≡ length numbers → turned ≡ reverse old → old ≡ numbers → refill n numbers turned ≡ reverse numbers
+refilled n numbers turned old size is e =
+    let turns : turned ≡ reverse numbers = is ∙ ap reverse e in
+    let long : length turned ≡ n = omega (arith, size, ap (λ (ks : List ℕ). length ks) turns, length-reverse numbers) in
+    take_at turned (drop (length turned) numbers) n long ∙ turns
 
 -- what was made of the first members, and of one more
 pub made_more : {A V : Type 0} (f : A → V) (xs : List A) (numbers : List ℕ) (i : ℕ) (d : A) (made : V) (out after : List V) → i < length numbers → get_or numbers i 0 < length xs

@@ -3,14 +3,12 @@
 
 mod home;
 mod laws;
-mod limits;
 mod lineage;
 mod moves;
 mod offset;
 
 pub use home::{homes, root_scroll};
 pub use laws::{chain_laws, offset_laws, scroll_laws};
-pub use limits::MAX_ORIGIN;
 pub use lineage::{ClipNumbers, chain_clips, clip_count};
 pub use moves::Moves;
 pub use offset::{node_offset, offsets};

@@ -25,8 +25,16 @@ pub fn chain_clips(list: &List, chain: Option<u16>) -> ClipNumbers
         push_reversed(&mut numbers, chain.clips.as_slice());
         next = chain.parent;
     }
-    numbers.as_mut_slice().reverse();
+    turn(&mut numbers);
     numbers
+}
+
+/// Turns the order of the numbers.
+#[tactic(auto, using(crate::proofs::Chains::refilled))]
+fn turn(numbers: &mut ClipNumbers)
+    ensures { numbers.new.items ≡ reverse numbers.old.items }
+{
+    numbers.as_mut_slice().reverse();
 }
 
 /// Appends numbers, the last one first.

@@ -1,6 +1,6 @@
 //! Where nodes are.
 
-ghost use Rattle.std.specs.Prelude.{◌≡◌, ◌≤◌, length, IfOk};
+ghost use Rattle.std.specs.Prelude.{◌≡◌, ◌≤◌, ◌+◌, length, All, IfOk};
 ghost use Rattle.spatial_tree.specs.Offsets.{IsOrigin, IsOffset, offset_of, offsets_of};
 
 use super::Moves;
@@ -9,7 +9,8 @@ use std::alloc::Global;
 use wr_geom::{NoMemory, Point};
 
 /// The offset of each node by its number, the root's first, in pixels: where the node is, if the root is at
-/// `origin`, which is at most 2^28 pixels from (0, 0) on each axis.
+/// `origin`, which is at most 2^28 pixels from (0, 0) on each axis. No node is more than 2^28 + 2^27 pixels
+/// from (0, 0).
 pub fn offsets(
     alloc: Global,
     list: &List,
@@ -17,8 +18,12 @@ pub fn offsets(
     origin: Point,
 ) -> Result<Vec<Point>, NoMemory>
     requires { IsOrigin origin }
-    ensures { IfOk result (λ table. table.items ≡ offsets_of list.now.nodes moves.now origin) }
+    ensures table { IfOk result (λ table. table.items ≡ offsets_of list.now.nodes moves.now origin) }
+    ensures len { IfOk result (λ table. length table.items ≡ length list.now.nodes + 1) }
+    ensures near { IfOk result (λ table. All IsOffset table.items) }
 {
+    // Every offset is near because positions and properties are.
+    let _stored = moves.scrolls();
     let nodes = list.nodes();
     let mut table = Vec::with_capacity(alloc, nodes.len() + 1)?;
     table.push(origin)?;

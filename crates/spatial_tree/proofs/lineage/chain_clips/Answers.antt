@@ -25,5 +25,5 @@ up-preserved c =
 
 pub returns : goal.returns
 returns c =
-    gathered_all c.chains-chains.result.now c.up.next c.up.numbers.items c.reverse.new.self _ c.in_default.is c.up.invariant.1 (c.reverse.ensures.after ∙ ap reverse c.as_mut_slice.ensures.value)
+    gathered_all c.chains-chains.result.now c.up.next c.up.numbers.items c.turn.new.numbers.items _ c.in_default.is c.up.invariant.1 c.turn.ensures
     ∙ ap (λ (cs : List ChainDef). clip_numbers cs c.args.chain) c.chains-chains.ensures.value

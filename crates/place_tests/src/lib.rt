@@ -1,0 +1,5 @@
+//! Tests of where nodes and clips are.
+#![tactic(auto)]
+
+#[cfg(test)]
+mod tests;
