@@ -1,3 +1,5 @@
+ghost use Rattle.std.specs.Prelude.{◌≡◌, IfOk};
+
 use containers::{Exact, NumberMap, PairMap, Sequence, Shared};
 use std::alloc::{AllocError, Global};
 use std::cmp::Ordering;
@@ -5,7 +7,9 @@ use std::collections::hash_map::DefaultHasher;
 use std::hash::{Hash, Hasher};
 use std::test::Fail;
 
-fn numbers(alloc: Global, members: &[u32]) -> Result<Sequence<u32>, AllocError> {
+fn numbers(alloc: Global, members: &[u32]) -> Result<Sequence<u32>, AllocError>
+    ensures { IfOk result (λ all. all ≡ members.now) }
+{
     Ok(Sequence::from_vec(Vec::from_slice(alloc, members)?))
 }
 

@@ -1,0 +1,5 @@
+pub mod SceneModel
+pub mod StoreFaults
+pub mod Operations
+pub mod Outcome
+pub mod Limits

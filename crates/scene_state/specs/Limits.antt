@@ -1,0 +1,25 @@
+-- The limits of a scene, and the scene after a transaction.
+use Rattle.std.specs.Prelude.{ℕ, ◌^◌, nat_lt, if◌then◌else◌, Option, Some, None, Bool, Ok, Err}
+use Rattle.wr_io.specs.declared.fault.Code.{Code}
+use Rattle.wr_io.specs.declared.fault.Code.TheVariants as code
+use Rattle.image_store.specs.StoreModel.{StoreModel, pixel_count}
+use Rattle.txn_format.specs.Txn.{TxnModel}
+use Rattle.scene_state.specs.SceneModel.{SceneModel}
+use Rattle.scene_state.specs.Operations.{Next, after_ops, then_next}
+
+-- more than 2^26 pixels are stored
+unfoldable pub is_full : StoreModel → Bool
+is_full store = nat_lt (2 ^ 26) (pixel_count store)
+
+-- the limit that a scene breaks, if it breaks one
+abbrev pub limit_of : SceneModel → Option Code
+limit_of s = if is_full s.store then Some code.TooManyPixels else None
+
+-- a scene that breaks no limit, or the fault, at a position
+abbrev pub where_none : Option Code → ℕ → SceneModel → ℕ → Next
+where_none None position s last = Ok (s, last)
+where_none (Some code) position s last = Err (record { code = code; at = position })
+
+-- the scene and the counter after a transaction, or the first fault: those of its operations in order, then the limits at its end
+abbrev pub next_scene : TxnModel → SceneModel → ℕ → Next
+next_scene t s last = then_next (after_ops t.pipeline t.ops s last) (λ made counter. where_none (limit_of made) t.len made counter)
