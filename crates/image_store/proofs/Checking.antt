@@ -84,3 +84,12 @@ checked_more number i bytes h c e b = record {
         subst (λ j. IsPixel (colour_from bytes (4 * j))) same (record { premultiplied = premultiplied_is (colour_from bytes (4 * i)) e; byte = b })
   ];
 }
+
+-- where each is premultiplied, none is bad
+is_sound : (p : Px) → IsPremultiplied p → is_premultiplied p ≡ true
+unfolding is_premultiplied
+is_sound p h = let b = h.blue in let g = h.green in let r = h.red in grind arith
+
+pub none_bad : (n : ℕ) (texels : List Px) → HasPixels texels → bad_from n texels ≡ None
+none_bad n [] h = λ i. None
+none_bad n (p ∷ ps) h = ap (λ t. if t then bad_from (n + 1) ps else Some n) (is_sound p (h 0).premultiplied) ∙ none_bad (n + 1) ps (λ i. h (suc i))

@@ -20,8 +20,8 @@ overflow_sub-self c =
 pub invariant_of-self : goal.invariant_of-self
 invariant_of-self c =
     let i = c.self.inside in
-    let n = c.split_planes.new in
-    let e = c.split_planes.ensures in
+    let n = c.split_planes-over.new in
+    let e = c.split_planes-over.ensures in
     band_written c.args.bytes.now c.args.at i.blue.items i.green.items i.red.items i.alpha.items n.b.items n.g.items n.r.items n.a.items e.blue e.green e.red e.alpha
     i.count c.count_opaque-gone.result c.count_opaque-come.result c.self.invariant c.requires.pixels
     (piece c.args.at (length c.args.bytes.now / 4) c.count_opaque-gone.result c.deref.result.now i.alpha.items c.count_opaque-gone.ensures c.deref.ensures.value)
@@ -30,8 +30,8 @@ invariant_of-self c =
 pub returns : goal.returns
 returns c =
     let i = c.self.inside in
-    let n = c.split_planes.new in
-    let e = c.split_planes.ensures in
+    let n = c.split_planes-over.new in
+    let e = c.split_planes-over.ensures in
     let room : c.args.at + length c.args.bytes.now / 4 ≤ length i.blue.items = omega (arith, ap length c.self.view_is, length-woven i.blue.items i.green.items i.red.items i.alpha.items) in
     woven_written c.args.bytes.now c.args.at i.blue.items i.green.items i.red.items i.alpha.items n.b.items n.g.items n.r.items n.a.items e.blue e.green e.red e.alpha room
     ∙ ap (λ t. written t c.args.at (pixels c.args.bytes.now)) c.self.view_is
