@@ -1,14 +1,14 @@
 -- The way from the root down to a node.
-use Rattle.std.proofs.Common.{◌≡◌, ℕ, zero, suc, ◌+◌, ◌-◌, ◌<◌, ◌≤◌, List, [], ◌∷◌, ◌++◌, length, get_or, take, Option, Some, None, refl, sym, ap, subst, ◌∙◌, arith, pos}
+use Rattle.std.proofs.Common.{◌≡◌, ℕ, zero, suc, ◌+◌, ◌-◌, ◌<◌, ◌≤◌, List, [], ◌∷◌, ◌++◌, length, get_or, Option, Some, None, refl, sym, ap, ◌∙◌, arith, pos}
 use Rattle.std.specs.Prelude.{All, slice_index}
 use Rattle.std.specs.Option.{option_or}
 use Rattle.std.proofs.lemmas.List.{length-append}
 use Rattle.field_forms.specs.Facts.{IsDefined}
 use Rattle.display_list.specs.declared.node.Node.{Node}
 use Rattle.display_list.specs.declared.node.Node.TheVariants as node
-use Rattle.display_list.specs.Facts.{EachAt, IsNode, AreNodes}
+use Rattle.display_list.specs.Facts.{EachAt, AreNodes}
 use Rattle.display_list.specs.Levels.{parent_of, levels_of}
-use Rattle.spatial_tree.specs.Lineage.{index_of, lineage, nodes_to}
+use Rattle.spatial_tree.specs.Lineage.{index_of, nodes_to}
 use Rattle.spatial_tree.specs.Homes.{scroll_of, first_scroll, root_scroll_of}
 use Rattle.spatial_tree.proofs.Lineages.{HasParentsFirst, lineage-none, lineage-step, lineage-all}
 use Rattle.spatial_tree.proofs.Tables.{table-length, table-at, table-before}

@@ -1,5 +1,5 @@
 -- Where nodes are.
-use Rattle.std.proofs.Common.{◌≡◌, ℕ, ℤ, suc, ◌+◌, ◌-◌, ◌*◌, ◌<◌, ◌≤◌, ◌^◌, List, [], ◌∷◌, ◌++◌, length, map, get_or, refl, sym, ap, ap₂, subst, ◌∙◌, arith}
+use Rattle.std.proofs.Common.{◌≡◌, ℕ, suc, ◌+◌, ◌-◌, ◌*◌, ◌<◌, ◌≤◌, ◌^◌, List, [], ◌∷◌, ◌++◌, length, map, get_or, refl, sym, ap, ap₂, subst, ◌∙◌, arith}
 use Rattle.std.specs.Prelude.{fold}
 use Rattle.std.specs.List.{range_with_len}
 use Rattle.std.proofs.Math.Numerals.{add-one}
@@ -14,7 +14,7 @@ use Rattle.display_list.specs.Levels.{parent_of}
 use Rattle.spatial_tree.specs.Lineage.{nodes_to}
 use Rattle.spatial_tree.specs.Laws.{OffsetFromParent, TableIsNear}
 use Rattle.spatial_tree.specs.Moves.{MovesModel, AreNearMoves}
-use Rattle.spatial_tree.specs.Offsets.{IsWithin, IsOrigin, IsOffset, shift_of, offset_of, offsets_of}
+use Rattle.spatial_tree.specs.Offsets.{IsOrigin, IsOffset, shift_of, offset_of, offsets_of}
 use Rattle.spatial_tree.proofs.Distances.{within_more, moved_within}
 use Rattle.spatial_tree.proofs.Nodes.{AreOrdered, nodes_to-root, nodes_to-step, nodes_to-all, nodes_to-few}
 

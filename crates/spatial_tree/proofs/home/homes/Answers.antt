@@ -1,4 +1,4 @@
-use Rattle.std.proofs.Common.{List, map, sym, ap, ap₂, ◌∙◌, arith}
+use Rattle.std.proofs.Common.{List, map, ap₂, ◌∙◌, arith}
 use Rattle.display_list.specs.declared.node.ClipDef.{ClipDef}
 use Rattle.spatial_tree.specs.Lineage.{members_at, clips_of}
 use Rattle.spatial_tree.specs.Homes.{root_scroll_of, homes_of}

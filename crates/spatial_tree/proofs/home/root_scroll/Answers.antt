@@ -1,5 +1,4 @@
 use Rattle.std.proofs.Common.{subst, sym, ap, ◌∙◌}
-use Rattle.display_list.specs.declared.node.Node.{Node}
 use Rattle.spatial_tree.specs.Homes.{root_scroll_of}
 use Rattle.spatial_tree.proofs.Nodes.{AreOrdered, scroll_up, scroll_done}
 use Rattle.spatial_tree.proofs.home.root_scroll.Goals as goal

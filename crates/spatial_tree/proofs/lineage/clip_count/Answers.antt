@@ -1,4 +1,4 @@
-use Rattle.std.proofs.Common.{◌≡◌, ◌+◌, ◌≤◌, List, length, ℕ, None, subst, sym, ap, ◌∙◌, arith}
+use Rattle.std.proofs.Common.{List, length, ℕ, ap, ◌∙◌, arith}
 use Rattle.std.proofs.lemmas.List.{length-append}
 use Rattle.display_list.specs.declared.node.ChainDef.{ChainDef}
 use Rattle.spatial_tree.specs.Lineage.{clip_numbers}
