@@ -1,5 +1,5 @@
 -- Laws of placed clips.
-use Rattle.std.proofs.Common.{◌≡◌, ℕ, ◌+◌, ◌<◌, ◌≤◌, ℤ, ◌+ℤ◌, List, [], ◌∷◌, ◌++◌, length, map, get_or, take, Option, Some, None, refl, sym, ap, ap₂, subst, ◌∙◌, append_assoc, arith}
+use Rattle.std.proofs.Common.{◌≡◌, ℕ, ◌+◌, ◌<◌, ◌≤◌, List, [], ◌∷◌, ◌++◌, length, map, get_or, refl, ap, ap₂, ◌∙◌, arith}
 use Rattle.std.specs.Prelude.{All}
 use Rattle.std.proofs.lemmas.Int.{ints}
 use Rattle.std.proofs.lemmas.List.{append-nil, get_or_default, length-map, map-append}
@@ -12,7 +12,6 @@ use Rattle.clip_masks.specs.Clips.{shifted_clip, shifted_clips}
 use Rattle.clip_masks.specs.Coverage.{chain_coverage}
 use Rattle.clip_masks.specs.declared.clip.Clip.{Clip}
 use Rattle.clip_masks.proofs.Chains.{chain_none}
-use Rattle.field_forms.specs.Facts.{IsReference}
 use Rattle.display_list.specs.declared.node.ClipDef.{ClipDef}
 use Rattle.display_list.specs.ListModel.{ListModel}
 use Rattle.display_list.specs.Facts.{IsClip, IsList}

@@ -1,5 +1,5 @@
 -- What holds of placed clips, in every display list.
-use Rattle.std.specs.Prelude.{◌≡◌, ℕ, ◌<◌, ◌≤◌, ℤ, List, [], ◌++◌, length, map, Option, Some, None, slice_index_or}
+use Rattle.std.specs.Prelude.{◌≡◌, ℕ, ◌<◌, ◌≤◌, ℤ, [], ◌++◌, length, map, Option, Some, None, slice_index_or}
 use Rattle.wr_geom.specs.Points.{point_sum}
 use Rattle.wr_geom.specs.declared.point.Point.{Point}
 use Rattle.clip_masks.specs.Clips.{shifted_clips}

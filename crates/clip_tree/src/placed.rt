@@ -1,6 +1,6 @@
 //! Clips that are moved to their nodes' offsets.
 
-ghost use Rattle.std.specs.Prelude.{◌≡◌, ◌+◌, ◌<◌, ◌++◌, ℕ, length, All, IfOk, OnOk, OnErr};
+ghost use Rattle.std.specs.Prelude.{◌≡◌, ◌+◌, ◌++◌, length, All, IfOk, OnOk, OnErr};
 ghost use Rattle.clip_masks.specs.Clips.{shifted_clip};
 ghost use Rattle.field_forms.specs.Facts.{IsDefined};
 ghost use Rattle.display_list.specs.Facts.{IsClip};

@@ -17,6 +17,10 @@ moves_code =
     (coded× (map.code coded_ℕ (coded× coded_ℤ coded_ℤ)) (coded× (map.code coded_ℕ (coded× coded_ℤ coded_ℤ)) (map.code coded_ℕ coded_ℕ)))
     (λ m. (m.scrolls, (m.offsets, m.opacities))) (λ p. record { scrolls = p.0; offsets = p.1.0; opacities = p.1.1 }) (λ _. refl)
 
+-- without a position and without a property
+abbrev pub no_moves : MovesModel
+no_moves = record { scrolls = map.empty; offsets = map.empty; opacities = map.empty }
+
 -- both coordinates are within two to the 20th of 0
 pub record IsNearPair (d : ℤ × ℤ) : Type 0 where
   pub x : IsNear d.0

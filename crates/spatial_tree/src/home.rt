@@ -1,6 +1,6 @@
 //! Which scroll frames move a node.
 
-ghost use Rattle.std.specs.Prelude.{◌≡◌, ◌≤◌, ◌<◌, ℕ, length, IfOk, slice_index_or};
+ghost use Rattle.std.specs.Prelude.{◌≡◌, ◌≤◌, length, IfOk};
 ghost use Rattle.field_forms.specs.Facts.{IsDefined};
 ghost use Rattle.spatial_tree.specs.Homes.{scroll_of, root_scroll_of, homes_of};
 
@@ -19,9 +19,9 @@ pub fn root_scroll(list: &List, node: u16) -> Option<u16>
     let mut outermost = None;
     let mut at = node;
     'up: while at > 0 {
-        let below = nodes[at as usize - 1];
-        outermost = scroll_number(below).or(outermost);
-        at = below.parent();
+        let frame = nodes[at as usize - 1];
+        outermost = scroll_number(frame).or(outermost);
+        at = frame.parent();
     }
     outermost
 }

@@ -1,6 +1,6 @@
 //! What a chain has from its parents.
 
-ghost use Rattle.std.specs.Prelude.{◌≡◌, ◌+◌, ◌≤◌, ◌++◌, length, reverse, slice_index_or};
+ghost use Rattle.std.specs.Prelude.{◌≡◌, ◌+◌, ◌≤◌, ◌++◌, length, reverse};
 ghost use Rattle.arrayvec.specs.ArrayVec.{array_vec_len};
 ghost use Rattle.field_forms.specs.Facts.{IsDefined};
 ghost use Rattle.spatial_tree.specs.Lineage.{clip_numbers};

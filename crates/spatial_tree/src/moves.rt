@@ -4,7 +4,7 @@ ghost use Rattle.std.specs.Prelude.{◌≡◌, ◌↔◌, ◌≤◌, neg_ℤ, Is
 ghost use Rattle.std.specs.FinMap as map;
 ghost use Rattle.field_forms.specs.Facts.{IsNear};
 ghost use Rattle.display_list.specs.Facts.{IsNode};
-ghost use Rattle.spatial_tree.specs.Moves.{AreNearMoves};
+ghost use Rattle.spatial_tree.specs.Moves.{AreNearMoves, no_moves};
 ghost use Rattle.spatial_tree.specs.Offsets.{IsWithin, distance_of, property_of, clamped, shift_of};
 
 use containers::{Exact, NumberMap, Shared};
@@ -38,7 +38,7 @@ impl Model for Moves {
 impl Moves {
     /// Without a position or a property. It takes no memory.
     pub fn new(alloc: Global) -> Moves
-        ensures { result ≡ record { scrolls = map.empty; offsets = map.empty; opacities = map.empty } }
+        ensures { result ≡ no_moves }
     {
         Moves {
             scrolls: Shared::new(alloc, NumberMap::new(alloc)),
@@ -135,7 +135,7 @@ impl Moves {
 
     /// Whether there is neither a position nor a property.
     pub fn is_empty(&self) -> bool
-        ensures { IsTrue result ↔ (self.now ≡ record { scrolls = map.empty; offsets = map.empty; opacities = map.empty }) }
+        ensures { IsTrue result ↔ (self.now ≡ no_moves) }
     {
         self.scrolls().is_empty() && self.offsets().is_empty() && self.opacities().is_empty()
     }

@@ -44,6 +44,6 @@ pub fn node_offset(list: &List, moves: &Moves, origin: Point, node: u16) -> Poin
     if node == 0 {
         return origin;
     }
-    let below = list.nodes()[node as usize - 1];
-    node_offset(list, moves, origin, below.parent()).plus(moves.shift(below))
+    let frame = list.nodes()[node as usize - 1];
+    node_offset(list, moves, origin, frame.parent()).plus(moves.shift(frame))
 }

@@ -1,4 +1,4 @@
-use Rattle.std.proofs.Common.{◌≡◌, ◌≤◌, ◌+◌, ◌++◌, List, length, map, refl, subst, sym, ap, ap₂, ◌∙◌, arith}
+use Rattle.std.proofs.Common.{◌+◌, ◌++◌, List, length, map, refl, subst, sym, ap, ap₂, ◌∙◌, arith}
 use Rattle.display_list.specs.declared.node.ClipDef.{ClipDef}
 use Rattle.display_list.specs.Facts.{IsClip}
 use Rattle.spatial_tree.specs.Lineage.{members_at, clips_of}

@@ -1,7 +1,7 @@
 use Rattle.std.specs.Prelude.{All}
 use Rattle.wr_geom.specs.declared.point.Point.{Point}
-use Rattle.std.proofs.Common.{◌≡◌, List, length, ◌∷◌, ◌++◌, [], subst, sym, ap, ◌∙◌, arith}
-use Rattle.display_list.specs.Facts.{IsNode, AreNodes}
+use Rattle.std.proofs.Common.{List, length, ◌∷◌, ◌++◌, [], subst, sym, ap, ◌∙◌, arith}
+use Rattle.display_list.specs.Facts.{AreNodes}
 use Rattle.spatial_tree.specs.Offsets.{IsOffset}
 use Rattle.spatial_tree.proofs.Distances.{sum_fits_by}
 use Rattle.spatial_tree.proofs.Places.{offset-root, offset-near, parent_in, parent_low, parent_of_table, table_more, table_all, table-size, near_table}
