@@ -1,0 +1,13 @@
+//! What is drawn: primitives of a colour, an image, a border or glyphs, and the groups that blend them.
+//!
+//! A primitive has a colour at each point of its rectangle, and clips cover that. Entries, which are
+//! primitives and the ends of groups, are painted over a stack of colours at each point.
+#![tactic(auto)]
+
+mod entry;
+mod kind;
+mod primitive;
+
+pub use entry::{Entry, Top};
+pub use kind::{GlyphUse, Kind};
+pub use primitive::Primitive;
