@@ -1,1 +1,5 @@
+pub mod Borders
+pub mod Colours
 pub mod PrimitiveModel
+pub mod Stacks
+pub mod StoreStub

@@ -4,6 +4,7 @@
 //! primitives and the ends of groups, are painted over a stack of colours at each point.
 #![tactic(auto)]
 
+mod border;
 mod entry;
 mod kind;
 mod primitive;
