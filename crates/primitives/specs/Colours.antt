@@ -6,7 +6,7 @@ use Rattle.blend_rules.specs.declared.colour.Px.{Px}
 use Rattle.blend_rules.specs.declared.mode.Mode.TheVariants.{Normal}
 use Rattle.blend_rules.specs.Colour.{clear, scaled, blended}
 use Rattle.clip_masks.specs.Coverage.{chain_coverage, cut_by}
-use Rattle.primitives.specs.StoreStub.{StoreModel, ImageModel, MaskModel, image_at, glyph_at, texel_of, byte_of}
+use Rattle.primitives.specs.StoreStub.{StoreModel, ImageModel, MaskModel, image_at, glyph_at, texel_of, mask_byte}
 use Rattle.primitives.specs.declared.kind.GlyphUse.{GlyphUse}
 use Rattle.primitives.specs.declared.kind.Kind.{Kind}
 use Rattle.primitives.specs.declared.kind.Kind.TheVariants as kind
@@ -36,18 +36,18 @@ abbrev pub mask_rect : MaskModel → Bounds
 mask_rect m = record { x0 = pos 0; y0 = pos 0; x1 = pos m.w; y1 = pos m.h }
 
 -- a mask's byte at (x, y), relative to its first corner: 0 outside of it, and where there is no mask
-unfoldable pub mask_byte : Option MaskModel → ℤ → ℤ → ℕ
-mask_byte None x y = 0
-mask_byte (Some m) x y = if holds (mask_rect m) x y then byte_of m (unsigned_abs x) (unsigned_abs y) else 0
+unfoldable pub mask_coverage : Option MaskModel → ℤ → ℤ → ℕ
+mask_coverage None x y = 0
+mask_coverage (Some m) x y = if holds (mask_rect m) x y then mask_byte m (unsigned_abs x) (unsigned_abs y) else 0
 
--- the byte of a glyph's mask at the pixel (x, y)
-abbrev pub glyph_byte : StoreModel → ℕ → ℕ → GlyphUse → ℤ → ℤ → ℕ
-glyph_byte store pipeline font g x y = mask_byte (used g.generation (glyph_at store pipeline font g.glyph)) (x -ℤ g.x) (y -ℤ g.y)
+-- what a glyph's mask covers of the pixel (x, y), of 255
+abbrev pub glyph_coverage : StoreModel → ℕ → ℕ → GlyphUse → ℤ → ℤ → ℕ
+glyph_coverage store pipeline font g x y = mask_coverage (used g.generation (glyph_at store pipeline font g.glyph)) (x -ℤ g.x) (y -ℤ g.y)
 
 -- from clear, each glyph in order is blended over what is so far: the text's colour under the glyph's mask
 abbrev pub text_colour : StoreModel → ℕ → ℕ → Px → List GlyphUse → ℤ → ℤ → Px
 text_colour store pipeline font colour glyphs x y =
-    fold (λ so_far g. blended Normal (scaled colour (glyph_byte store pipeline font g x y)) so_far) clear glyphs
+    fold (λ so_far g. blended Normal (scaled colour (glyph_coverage store pipeline font g x y)) so_far) clear glyphs
 
 -- ---- primitives
 

@@ -1,5 +1,8 @@
 pub mod Borders
 pub mod Colours
+pub mod Facts
+pub mod Laws
+pub mod Moves
 pub mod PrimitiveModel
 pub mod Stacks
 pub mod StoreStub

@@ -7,8 +7,10 @@
 mod border;
 mod entry;
 mod kind;
+mod laws;
 mod primitive;
 
 pub use entry::{Entry, Top};
 pub use kind::{GlyphUse, Kind};
+pub use laws::colour_laws;
 pub use primitive::Primitive;
