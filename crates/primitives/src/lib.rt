@@ -12,5 +12,5 @@ mod primitive;
 
 pub use entry::{Entry, Top};
 pub use kind::{GlyphUse, Kind};
-pub use laws::colour_laws;
+pub use laws::{colour_laws, run_laws, shift_laws};
 pub use primitive::Primitive;
