@@ -4,6 +4,7 @@ ghost use Rattle.std.specs.Prelude.{◌≡◌, ◌≤ℤ◌, ◌<ℤ◌, ◌^◌
 ghost use Rattle.wr_geom.specs.Bounds.{IsCoordinate, holds};
 ghost use Rattle.wr_geom.specs.Sides.{WidthsFit};
 ghost use Rattle.display_list.specs.Facts.{IsBorder};
+ghost use Rattle.clip_masks.specs.Corners.{HasPixel};
 ghost use Rattle.primitives.specs.Borders.{is_at_first, edge_of, pixels_before, pixels_after, vertical_edge, horizontal_edge, is_horizontal, colour_of_side, side_colour, border_coverage, border_colour};
 
 use blend_rules::{Px, scale};
@@ -138,4 +139,33 @@ fn border_coverage(outer: Rounded, w: Widths, x: i32, y: i32) -> u8
     let inner = outer.inset(w);
     let samples = outer.samples(x, y).saturating_sub(inner.samples(x, y));
     ((255 * samples as u16 + 8) / 16) as u8
+}
+
+/// The colour of the side that a pixel of the rectangle belongs to.
+#[tactic(auto, unfolding(crate::specs::Borders::side_colour))]
+fn side_colour(rect: Rect, w: Widths, colours: Sides, x: i32, y: i32) -> Px
+    requires { HasPixel rect x y }
+    ensures { result ≡ side_colour rect w colours x y }
+{
+    colour_of_side(vertical_edge(rect, w, x), horizontal_edge(rect, w, y), colours)
+}
+
+/// A border's colour at a pixel of its rectangle.
+pub(crate) fn border_colour(
+    rect: Rect,
+    w: Widths,
+    colours: Sides,
+    radii: Radii,
+    x: i32,
+    y: i32,
+) -> Px
+    requires pixel { HasPixel rect x y }
+    requires border { IsBorder rect w radii }
+    ensures { result ≡ border_colour rect w colours radii x y }
+{
+    let outer = Rounded::new(rect, radii).unwrap();
+    scale(
+        side_colour(rect, w, colours, x, y),
+        border_coverage(outer, w, x, y),
+    )
 }

@@ -1,9 +1,12 @@
-ghost use Rattle.std.specs.Prelude.{◌↔◌, IsTrue};
-ghost use Rattle.primitives.specs.PrimitiveModel.{IsKind};
+ghost use Rattle.std.specs.Prelude.{◌≡◌, ◌↔◌, IsTrue, All};
+ghost use Rattle.wr_geom.specs.Bounds.{IsCoordinate};
+ghost use Rattle.blend_rules.specs.Colour.{IsPixel};
+ghost use Rattle.display_list.specs.Facts.{IsBorder};
+ghost use Rattle.primitives.specs.PrimitiveModel.{IsGlyphUse, IsKind};
 
-use blend_rules::Px;
+use blend_rules::{Px, know_bytes};
 use containers::Sequence;
-use wr_geom::{Radii, Rect, Widths};
+use wr_geom::{MAX_RECT_COORDINATE, Radii, Rect, Widths};
 
 /// A glyph's mask and the position of its first corner, in pixels within -2^29 and 2^29.
 ///
@@ -48,4 +51,78 @@ pub enum Kind {
         colour: Px,
         glyphs: Sequence<GlyphUse>,
     },
+}
+
+impl Kind {
+    /// Whether it can stand in a rectangle: its colours are premultiplied, glyphs stand within -2^29 and
+    /// 2^29 pixels, and a border's widths and radii are at most 4,096 pixels and fit.
+    pub fn fits(&self, rect: Rect) -> bool
+        ensures { IsTrue result ↔ IsKind rect self.now }
+    {
+        match self {
+            Kind::Solid(colour) => is_pixel(*colour),
+            Kind::Image { .. } => true,
+            Kind::Border {
+                widths,
+                top,
+                right,
+                bottom,
+                left,
+                radii,
+            } => {
+                is_border(rect, *widths, *radii)
+                    && is_pixel(*top)
+                    && is_pixel(*right)
+                    && is_pixel(*bottom)
+                    && is_pixel(*left)
+            }
+            Kind::Text { colour, glyphs, .. } => {
+                is_pixel(*colour) && are_near(glyphs.as_slice())
+            }
+        }
+    }
+}
+
+/// Whether a colour is premultiplied.
+fn is_pixel(colour: Px) -> bool
+    ensures { IsTrue result ↔ IsPixel colour }
+{
+    know_bytes(colour);
+    colour.is_premultiplied()
+}
+
+/// Whether a border of these widths and radii fits a rectangle.
+fn is_border(rect: Rect, widths: Widths, radii: Radii) -> bool
+    ensures { IsTrue result ↔ IsBorder rect widths radii }
+{
+    widths.are_small() && widths.fit(rect) && radii.are_small() && radii.fit(rect)
+}
+
+/// Whether a coordinate lies within -2^29 and 2^29 pixels.
+fn is_coordinate(z: i32) -> bool
+    ensures { IsTrue result ↔ IsCoordinate z }
+{
+    if z < -MAX_RECT_COORDINATE {
+        return false;
+    }
+    z <= MAX_RECT_COORDINATE
+}
+
+/// Whether a glyph stands within -2^29 and 2^29 pixels on both axes.
+fn is_near(g: GlyphUse) -> bool
+    ensures { IsTrue result ↔ IsGlyphUse g }
+{
+    is_coordinate(g.x) && is_coordinate(g.y)
+}
+
+/// Whether each glyph does.
+fn are_near(glyphs: &[GlyphUse]) -> bool
+    ensures { IsTrue result ↔ All IsGlyphUse glyphs.now }
+{
+    for g in glyphs {
+        if !is_near(*g) {
+            return false;
+        }
+    }
+    true
 }

@@ -1,8 +1,9 @@
-ghost use Rattle.std.specs.Prelude.{◌≡◌};
+ghost use Rattle.std.specs.Prelude.{◌≡◌, ◌↔◌, IsSome, IfSome, IfOk};
+ghost use Rattle.primitives.specs.Colours.{visible_rect};
 ghost use Rattle.primitives.specs.PrimitiveModel.{IsKind, IsPrimitive};
 
 use crate::Kind;
-use clip_masks::Clip;
+use clip_masks::{Clip, cut};
 use containers::Sequence;
 use std::marker::Model;
 use wr_geom::Rect;
@@ -31,6 +32,18 @@ impl Model for Primitive {
 }
 
 impl Primitive {
+    /// A kind of picture in a rectangle, under clips. None where the kind doesn't fit the rectangle, by
+    /// `Kind::fits`.
+    pub fn new(kind: Kind, rect: Rect, clips: Sequence<Clip>) -> Option<Primitive>
+        ensures some { IsSome result ↔ IsKind rect kind }
+        ensures value { IfSome result (λ p. p ≡ record { kind = kind; rect = rect; clips = clips }) }
+    {
+        if !kind.fits(rect) {
+            return None;
+        }
+        Some(Primitive { kind, rect, clips })
+    }
+
     /// What it shows.
     pub fn kind(&self) -> &Kind
         ensures value { result.now ≡ self.now.kind }
@@ -53,5 +66,13 @@ impl Primitive {
         ensures primitive { IsPrimitive self.now }
     {
         self.clips.as_slice()
+    }
+
+    /// Its rectangle cut by the rectangle of each of its clips of mode in. Outside of that nothing of it
+    /// shows. It takes no memory.
+    pub(crate) fn visible_rect(&self) -> Rect
+        ensures { result ≡ visible_rect self.now }
+    {
+        cut(self.clips.as_slice(), self.rect)
     }
 }
