@@ -1,0 +1,9 @@
+pub mod Generations
+pub mod Models
+pub mod Patches
+pub mod StoreModel
+pub mod Changes
+pub mod Outcome
+pub mod Bands
+pub mod Keyed
+pub mod StoreCode

@@ -1,0 +1,82 @@
+//! Interleaved colours taken apart into their planes.
+
+ghost use Rattle.std.specs.Prelude.{◌≡◌, ◌<◌, ◌≤◌, ◌+◌, ◌*◌, ◌/◌, ℕ, length, slice_index};
+ghost use Rattle.image_store.specs.Bands.{opaque_count, IsSplit};
+ghost use Rattle.blend_rules.specs.declared.plane.Plane.TheVariants.{B, G, R, A};
+
+/// The bytes of colours, each into its plane.
+fn split_texels(bytes: &[u8], b: &mut [u8], g: &mut [u8], r: &mut [u8], a: &mut [u8])
+    requires bytes { length bytes.now ≡ 4 * length b.old }
+    requires green { length g.old ≡ length b.old }
+    requires red { length r.old ≡ length b.old }
+    requires alpha { length a.old ≡ length b.old }
+    ensures blue { (i : ℕ) → i < length b.old → slice_index b.new i ≡ slice_index bytes.now (4 * i) }
+    ensures green { (i : ℕ) → i < length b.old → slice_index g.new i ≡ slice_index bytes.now (4 * i + 1) }
+    ensures red { (i : ℕ) → i < length b.old → slice_index r.new i ≡ slice_index bytes.now (4 * i + 2) }
+    ensures alpha { (i : ℕ) → i < length b.old → slice_index a.new i ≡ slice_index bytes.now (4 * i + 3) }
+{
+    for i in 0..b.len() {
+        b[i] = bytes[4 * i];
+        g[i] = bytes[4 * i + 1];
+        r[i] = bytes[4 * i + 2];
+        a[i] = bytes[4 * i + 3];
+    }
+}
+
+/// How many bytes are 255.
+pub(crate) fn count_opaque(alpha: &[u8]) -> usize
+    ensures { result ≡ opaque_count alpha.now }
+{
+    alpha.iter().filter(|a| **a == 255).count()
+}
+
+/// The bytes of colours, each into its plane from an index on.
+fn split_into(bytes: &[u8], at: usize, b: &mut [u8], g: &mut [u8], r: &mut [u8], a: &mut [u8])
+    requires whole { length bytes.now ≡ 4 * (length bytes.now / 4) }
+    requires room { at + length bytes.now / 4 ≤ length b.old }
+    requires green { length g.old ≡ length b.old }
+    requires red { length r.old ≡ length b.old }
+    requires alpha { length a.old ≡ length b.old }
+    ensures blue { IsSplit B bytes.now at b.old b.new }
+    ensures green { IsSplit G bytes.now at g.old g.new }
+    ensures red { IsSplit R bytes.now at r.old r.new }
+    ensures alpha { IsSplit A bytes.now at a.old a.new }
+{
+    let end = at + bytes.len() / 4;
+    split_texels(
+        bytes,
+        &mut b[at..end],
+        &mut g[at..end],
+        &mut r[at..end],
+        &mut a[at..end],
+    );
+}
+
+/// The bytes of colours, each into its plane from an index on.
+pub(crate) fn split_planes(
+    bytes: &[u8],
+    at: usize,
+    b: &mut Vec<u8>,
+    g: &mut Vec<u8>,
+    r: &mut Vec<u8>,
+    a: &mut Vec<u8>,
+)
+    requires whole { length bytes.now ≡ 4 * (length bytes.now / 4) }
+    requires room { at + length bytes.now / 4 ≤ length b.old.items }
+    requires green { length g.old.items ≡ length b.old.items }
+    requires red { length r.old.items ≡ length b.old.items }
+    requires alpha { length a.old.items ≡ length b.old.items }
+    ensures blue { IsSplit B bytes.now at b.old.items b.new.items }
+    ensures green { IsSplit G bytes.now at g.old.items g.new.items }
+    ensures red { IsSplit R bytes.now at r.old.items r.new.items }
+    ensures alpha { IsSplit A bytes.now at a.old.items a.new.items }
+{
+    split_into(
+        bytes,
+        at,
+        b.as_mut_slice(),
+        g.as_mut_slice(),
+        r.as_mut_slice(),
+        a.as_mut_slice(),
+    );
+}
