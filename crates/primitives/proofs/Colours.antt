@@ -12,7 +12,8 @@ use Rattle.blend_rules.proofs.Blends.{scaled_by_full, scaled_by_none, scaled_cle
 use Rattle.clip_masks.specs.Coverage.{chain_coverage, cut_by}
 use Rattle.clip_masks.specs.Outline.{Outline, samples_inside, share, inset_of, sample_points, is_inside}
 use Rattle.clip_masks.proofs.Chains.{chain_byte, beside_cut}
-use Rattle.primitives.specs.StoreStub.{StoreModel, ImageModel, MaskModel, IsImage, IsMask, IsStore, image_at, glyph_at, texel_of, mask_byte}
+use Rattle.image_store.specs.Models.{ImageModel, MaskModel, IsImage, IsMask, texel_of, mask_byte}
+use Rattle.image_store.specs.StoreModel.{StoreModel, IsStore, image_at, glyph_at}
 use Rattle.primitives.specs.declared.border.Edge.{Edge}
 use Rattle.primitives.specs.declared.border.Sides.{Sides}
 use Rattle.primitives.specs.declared.kind.GlyphUse.{GlyphUse}
@@ -20,7 +21,7 @@ use Rattle.primitives.specs.declared.kind.Kind.{Kind}
 use Rattle.primitives.specs.declared.kind.Kind.TheVariants as kind
 use Rattle.primitives.specs.PrimitiveModel.{PrimitiveModel, IsKind, IsPrimitive}
 use Rattle.primitives.specs.Borders.{border_colour, border_coverage, colour_of_side, side_colour, is_horizontal, vertical_edge, horizontal_edge, pixels_before}
-use Rattle.primitives.specs.Colours.{used, repeated_texel, image_colour, mask_rect, mask_coverage, glyph_coverage, text_colour, kind_colour, primitive_colour, covered_colour, visible_rect}
+use Rattle.primitives.specs.Colours.{used, repeated_texel, image_colour, mask_rect, mask_coverage, glyph_coverage, with_glyph, text_colour, kind_colour, primitive_colour, covered_colour, visible_rect}
 use Rattle.primitives.specs.Stacks.{Stack, step}
 use Rattle.primitives.specs.Facts.{IsOpaque, IsOpaqueImage}
 use Rattle.primitives.specs.Laws.{ColourIsPixel, CoveredIsPixel, ClearWhereNotVisible, OpaqueIsFull, OpaqueReplaces}
@@ -88,10 +89,6 @@ mask_is_byte (Some mask) h x y = by_test (holds (mask_rect mask) x y)
 glyph_byte : (store : StoreModel) → IsStore store → (pipeline font : ℕ) (g : GlyphUse) (x y : ℤ) → glyph_coverage store pipeline font g x y < 2 ^ 8
 glyph_byte store h pipeline font g x y =
     mask_is_byte (used g.generation (glyph_at store pipeline font g.glyph)) (λ mask e. h.masks pipeline font g.glyph mask (used_stored g.generation (glyph_at store pipeline font g.glyph) mask e)) (x -ℤ g.x) (y -ℤ g.y)
-
--- one glyph over what is so far
-abbrev pub with_glyph : StoreModel → ℕ → ℕ → Px → ℤ → ℤ → Px → GlyphUse → Px
-with_glyph store pipeline font colour x y so_far g = blended Normal (scaled colour (glyph_coverage store pipeline font g x y)) so_far
 
 pub glyph_pixel : (store : StoreModel) → IsStore store → (pipeline font : ℕ) (colour : Px) (x y : ℤ) (g : GlyphUse) (so_far : Px) → IsPixel colour → IsPixel so_far → IsPixel (with_glyph store pipeline font colour x y so_far g)
 glyph_pixel store h pipeline font colour x y g so_far c s =

@@ -15,7 +15,8 @@ use Rattle.clip_masks.specs.Coverage.{chain_coverage}
 use Rattle.clip_masks.specs.Outline.{Outline, samples_inside, share, inset_of, shrunk_by, shifted_outline}
 use Rattle.clip_masks.proofs.Moves.{shifted_samples}
 use Rattle.clip_masks.proofs.Chains.{shifted_chain}
-use Rattle.primitives.specs.StoreStub.{StoreModel, MaskModel, image_at, glyph_at}
+use Rattle.image_store.specs.Models.{MaskModel}
+use Rattle.image_store.specs.StoreModel.{StoreModel, image_at, glyph_at}
 use Rattle.primitives.specs.declared.border.Edge.{Edge}
 use Rattle.primitives.specs.declared.border.Sides.{Sides}
 use Rattle.primitives.specs.declared.kind.GlyphUse.{GlyphUse}
@@ -25,11 +26,10 @@ use Rattle.primitives.specs.declared.entry.Entry.{Entry}
 use Rattle.primitives.specs.declared.entry.Entry.TheVariants as entry
 use Rattle.primitives.specs.PrimitiveModel.{PrimitiveModel}
 use Rattle.primitives.specs.Borders.{edge_of, pixels_before, pixels_after, vertical_edge, horizontal_edge, colour_of_side, side_colour, border_coverage, border_colour}
-use Rattle.primitives.specs.Colours.{used, repeated_texel, image_colour, mask_coverage, glyph_coverage, text_colour, kind_colour, primitive_colour, covered_colour}
+use Rattle.primitives.specs.Colours.{used, repeated_texel, image_colour, mask_coverage, glyph_coverage, with_glyph, text_colour, kind_colour, primitive_colour, covered_colour}
 use Rattle.primitives.specs.Moves.{shifted_glyph, shifted_glyphs, shifted_kind, shifted_primitive, shifted_entry, shifted_entries}
 use Rattle.primitives.specs.Stacks.{Group, Stack, step, run}
 use Rattle.primitives.specs.Laws.{ShiftedHasColours, ShiftedHasCoveredColours, ShiftedSteps, ShiftedRuns}
-use Rattle.primitives.proofs.Colours.{with_glyph}
 
 distance_moved : (a b d : ℤ) → (a +ℤ d) -ℤ (b +ℤ d) ≡ a -ℤ b
 distance_moved a b d = omega (arith, ints)

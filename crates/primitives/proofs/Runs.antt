@@ -9,7 +9,7 @@ use Rattle.blend_rules.specs.declared.mode.Mode.TheVariants.{Normal}
 use Rattle.blend_rules.proofs.Blends.{scaled_clear, scaled_is_pixel, clear_is_pixel, blend_is_pixel, clear_source_leaves}
 use Rattle.clip_masks.specs.Coverage.{chain_coverage}
 use Rattle.clip_masks.proofs.Chains.{chain_byte}
-use Rattle.primitives.specs.StoreStub.{StoreModel, IsStore}
+use Rattle.image_store.specs.StoreModel.{StoreModel, IsStore}
 use Rattle.primitives.specs.declared.entry.Entry.{Entry}
 use Rattle.primitives.specs.declared.entry.Entry.TheVariants as entry
 use Rattle.primitives.specs.PrimitiveModel.{PrimitiveModel, IsPrimitive}

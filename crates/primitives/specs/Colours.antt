@@ -6,7 +6,8 @@ use Rattle.blend_rules.specs.declared.colour.Px.{Px}
 use Rattle.blend_rules.specs.declared.mode.Mode.TheVariants.{Normal}
 use Rattle.blend_rules.specs.Colour.{clear, scaled, blended}
 use Rattle.clip_masks.specs.Coverage.{chain_coverage, cut_by}
-use Rattle.primitives.specs.StoreStub.{StoreModel, ImageModel, MaskModel, image_at, glyph_at, texel_of, mask_byte}
+use Rattle.image_store.specs.Models.{ImageModel, MaskModel, texel_of, mask_byte}
+use Rattle.image_store.specs.StoreModel.{StoreModel, image_at, glyph_at}
 use Rattle.primitives.specs.declared.kind.GlyphUse.{GlyphUse}
 use Rattle.primitives.specs.declared.kind.Kind.{Kind}
 use Rattle.primitives.specs.declared.kind.Kind.TheVariants as kind
@@ -44,10 +45,13 @@ mask_coverage (Some m) x y = if holds (mask_rect m) x y then mask_byte m (unsign
 abbrev pub glyph_coverage : StoreModel → ℕ → ℕ → GlyphUse → ℤ → ℤ → ℕ
 glyph_coverage store pipeline font g x y = mask_coverage (used g.generation (glyph_at store pipeline font g.glyph)) (x -ℤ g.x) (y -ℤ g.y)
 
--- from clear, each glyph in order is blended over what is so far: the text's colour under the glyph's mask
+-- one glyph more over what is so far: the text's colour under the glyph's mask
+abbrev pub with_glyph : StoreModel → ℕ → ℕ → Px → ℤ → ℤ → Px → GlyphUse → Px
+with_glyph store pipeline font colour x y so_far g = blended Normal (scaled colour (glyph_coverage store pipeline font g x y)) so_far
+
+-- the glyphs in order, from clear
 abbrev pub text_colour : StoreModel → ℕ → ℕ → Px → List GlyphUse → ℤ → ℤ → Px
-text_colour store pipeline font colour glyphs x y =
-    fold (λ so_far g. blended Normal (scaled colour (glyph_coverage store pipeline font g x y)) so_far) clear glyphs
+text_colour store pipeline font colour glyphs x y = fold (with_glyph store pipeline font colour x y) clear glyphs
 
 -- ---- primitives
 

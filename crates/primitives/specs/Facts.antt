@@ -3,7 +3,8 @@ use Rattle.std.specs.Prelude.{◌≡◌, ◌<◌, ◌^◌, ℕ, ℤ, Option, Som
 use Rattle.wr_geom.specs.Bounds.{holds}
 use Rattle.blend_rules.specs.Colour.{IsPixel}
 use Rattle.blend_rules.specs.Pixels.{AreOpaque}
-use Rattle.primitives.specs.StoreStub.{StoreModel, ImageModel, image_at}
+use Rattle.image_store.specs.Models.{ImageModel}
+use Rattle.image_store.specs.StoreModel.{StoreModel, image_at}
 use Rattle.primitives.specs.declared.kind.Kind.{Kind}
 use Rattle.primitives.specs.declared.kind.Kind.TheVariants as kind
 use Rattle.primitives.specs.PrimitiveModel.{IsPrimitive}

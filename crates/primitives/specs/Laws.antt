@@ -4,7 +4,7 @@ use Rattle.wr_geom.specs.Bounds.{holds}
 use Rattle.wr_geom.specs.declared.point.Point.{Point}
 use Rattle.blend_rules.specs.Colour.{IsPixel, clear}
 use Rattle.clip_masks.specs.Coverage.{chain_coverage}
-use Rattle.primitives.specs.StoreStub.{StoreModel, IsStore}
+use Rattle.image_store.specs.StoreModel.{StoreModel, IsStore}
 use Rattle.primitives.specs.PrimitiveModel.{PrimitiveModel, IsPrimitive}
 use Rattle.primitives.specs.Colours.{primitive_colour, covered_colour, visible_rect}
 use Rattle.primitives.specs.Moves.{shifted_primitive, shifted_entry, shifted_entries}

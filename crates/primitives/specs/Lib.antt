@@ -5,4 +5,3 @@ pub mod Laws
 pub mod Moves
 pub mod PrimitiveModel
 pub mod Stacks
-pub mod StoreStub

@@ -6,7 +6,7 @@ use Rattle.blend_rules.specs.declared.mode.Mode.TheVariants.{Normal}
 use Rattle.blend_rules.specs.Colour.{clear, scaled, blended}
 use Rattle.clip_masks.specs.Coverage.{chain_coverage}
 use Rattle.clip_masks.specs.declared.clip.Clip.{Clip}
-use Rattle.primitives.specs.StoreStub.{StoreModel}
+use Rattle.image_store.specs.StoreModel.{StoreModel}
 use Rattle.primitives.specs.PrimitiveModel.{PrimitiveModel}
 use Rattle.primitives.specs.Colours.{covered_colour}
 use Rattle.primitives.specs.declared.entry.Entry.{Entry}

@@ -1,6 +1,6 @@
 //! Borders: the side that a pixel belongs to, and how much of it is covered.
 
-ghost use Rattle.std.specs.Prelude.{◌≡◌, ◌≤ℤ◌, ◌<ℤ◌, ◌^◌, pos, neg_ℤ, IsTrue};
+ghost use Rattle.std.specs.Prelude.{◌≡◌, ◌≤ℤ◌, ◌<ℤ◌, ◌^◌, ◌≤◌, pos, neg_ℤ, IsTrue};
 ghost use Rattle.wr_geom.specs.Bounds.{IsCoordinate, holds};
 ghost use Rattle.wr_geom.specs.Sides.{WidthsFit};
 ghost use Rattle.display_list.specs.Facts.{IsBorder};
@@ -64,11 +64,12 @@ fn edge_of(before: u32, after: u32, first: u16, last: u16) -> Edge
 }
 
 /// How many pixels lie between a first edge and a coordinate.
-fn pixels_before(edge: i32, z: i32) -> u32
+pub(crate) fn pixels_before(edge: i32, z: i32) -> u32
     requires edge { IsCoordinate edge }
     requires beyond { edge ≤ℤ z }
     requires near { z ≤ℤ pos (2 ^ 29) }
-    ensures { result ≡ pixels_before edge z }
+    ensures value { result ≡ pixels_before edge z }
+    ensures near { result ≤ 2 ^ 30 }
 {
     (z - edge) as u32
 }

@@ -5,11 +5,15 @@
 #![tactic(auto)]
 
 mod border;
+mod colour;
 mod entry;
+mod image;
 mod kind;
 mod laws;
 mod primitive;
+mod text;
 
+pub use colour::{colour_at, is_opaque, visible};
 pub use entry::{Entry, Top};
 pub use kind::{GlyphUse, Kind};
 pub use laws::{colour_laws, run_laws, shift_laws};
