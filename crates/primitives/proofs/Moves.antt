@@ -6,6 +6,9 @@ use Rattle.wr_geom.specs.Bounds.{Bounds, holds, shifted}
 use Rattle.wr_geom.specs.declared.point.Point.{Point}
 use Rattle.wr_geom.specs.declared.sides.Radii.{Radii}
 use Rattle.wr_geom.specs.declared.sides.Widths.{Widths}
+use Rattle.wr_geom.specs.Sides.{width_of, height_of}
+use Rattle.display_list.specs.Facts.{IsBorder}
+use Rattle.std.proofs.lemmas.List.Elements.{All-map}
 use Rattle.wr_geom.proofs.Points.{same_bounds, shifted_points}
 use Rattle.blend_rules.specs.Colour.{clear, scaled, blended}
 use Rattle.blend_rules.specs.declared.colour.Px.{Px}
@@ -24,10 +27,10 @@ use Rattle.primitives.specs.declared.kind.Kind.{Kind}
 use Rattle.primitives.specs.declared.kind.Kind.TheVariants as kind
 use Rattle.primitives.specs.declared.entry.Entry.{Entry}
 use Rattle.primitives.specs.declared.entry.Entry.TheVariants as entry
-use Rattle.primitives.specs.PrimitiveModel.{PrimitiveModel}
+use Rattle.primitives.specs.PrimitiveModel.{PrimitiveModel, IsGlyphUse, IsKind}
 use Rattle.primitives.specs.Borders.{edge_of, pixels_before, pixels_after, vertical_edge, horizontal_edge, colour_of_side, side_colour, border_coverage, border_colour}
 use Rattle.primitives.specs.Colours.{used, repeated_texel, image_colour, mask_coverage, glyph_coverage, with_glyph, text_colour, kind_colour, primitive_colour, covered_colour}
-use Rattle.primitives.specs.Moves.{shifted_glyph, shifted_glyphs, shifted_kind, shifted_primitive, shifted_entry, shifted_entries}
+use Rattle.primitives.specs.Moves.{CanShiftKind, shifted_glyph, shifted_glyphs, shifted_kind, shifted_primitive, shifted_entry, shifted_entries}
 use Rattle.primitives.specs.Stacks.{Group, Stack, step, run}
 use Rattle.primitives.specs.Laws.{ShiftedHasColours, ShiftedHasCoveredColours, ShiftedSteps, ShiftedRuns}
 
@@ -115,3 +118,36 @@ pub shifted_runs : ShiftedRuns
 shifted_runs store [] by x y s = refl
 shifted_runs store (e ∷ es) by x y s =
     ap (run store (x +ℤ by.x) (y +ℤ by.y) (shifted_entries es by)) (shifted_steps store e by x y s) ∙ shifted_runs store es by x y (step store x y e s)
+
+-- ---- what a moved primitive keeps
+
+across_moved : (b : Bounds) (by : Point) → width_of (shifted b by) ≡ width_of b
+across_moved b by = ap unsigned_abs (distance_moved b.x1 b.x0 by.x)
+
+down_moved : (b : Bounds) (by : Point) → height_of (shifted b by) ≡ height_of b
+down_moved b by = ap unsigned_abs (distance_moved b.y1 b.y0 by.y)
+
+-- a border that fits a rectangle fits it where it is moved
+border_moved : (b : Bounds) (by : Point) (w : Widths) (r : Radii) → IsBorder b w r → IsBorder (shifted b by) w r
+border_moved b by w r h =
+    let a = across_moved b by in
+    let d = down_moved b by in
+    record {
+      small = h.small;
+      fit = record { across = omega (arith, a, h.fit.across); down = omega (arith, d, h.fit.down) };
+      radii = record {
+        small = h.radii.small;
+        fit = record {
+          top = omega (arith, a, h.radii.fit.top);
+          bottom = omega (arith, a, h.radii.fit.bottom);
+          left = omega (arith, d, h.radii.fit.left);
+          right = omega (arith, d, h.radii.fit.right);
+        };
+      };
+    }
+
+pub kind_stays : (b : Bounds) (k : Kind) (by : Point) → IsKind b k → CanShiftKind by k → IsKind (shifted b by) (shifted_kind k by)
+kind_stays b (kind.Solid colour) by h can = h
+kind_stays b (kind.Image pipeline key g u v) by h can = tt
+kind_stays b (kind.Border w top right bottom l radii) by h can = (border_moved b by w radii h.0, h.1, h.2, h.3, h.4)
+kind_stays b (kind.Text pipeline font colour glyphs) by h can = (h.0, All-map IsGlyphUse (λ (g : GlyphUse). shifted_glyph g by) glyphs can)

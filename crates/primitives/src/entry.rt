@@ -1,8 +1,12 @@
+ghost use Rattle.std.specs.Prelude.{◌≡◌, IfOk};
+ghost use Rattle.primitives.specs.Moves.{CanShiftEntry, shifted_entry};
+
 use crate::Primitive;
+use crate::lists::{copied_clips, shifted_clips};
 use blend_rules::Mode;
 use clip_masks::Clip;
 use containers::Sequence;
-use wr_geom::Point;
+use wr_geom::{NoMemory, Point};
 
 /// A step of painting over a stack of colours.
 #[derive(Debug, PartialEq, Eq, PartialOrd, Ord, Drop)]
@@ -17,6 +21,47 @@ pub enum Entry {
     },
     /// Ends the group that was opened last: its colour is blended over the one below.
     Pop,
+}
+
+impl Entry {
+    /// An equal entry.
+    pub fn copy(&self) -> Result<Entry, NoMemory>
+        ensures { IfOk result (λ entry. entry ≡ self.now) }
+    {
+        Ok(match self {
+            Entry::Primitive(primitive) => Entry::Primitive(primitive.copy()?),
+            Entry::Push {
+                opacity,
+                mode,
+                clips,
+            } => Entry::Push {
+                opacity: *opacity,
+                mode: *mode,
+                clips: copied_clips(clips)?,
+            },
+            Entry::Pop => Entry::Pop,
+        })
+    }
+
+    /// Moved by whole pixels, with its clips and glyphs, which must stay in range. It takes no memory.
+    pub fn shift(self, by: Point) -> Entry
+        requires { CanShiftEntry by self }
+        ensures { result ≡ shifted_entry self by }
+    {
+        match self {
+            Entry::Primitive(primitive) => Entry::Primitive(primitive.shift(by)),
+            Entry::Push {
+                opacity,
+                mode,
+                clips,
+            } => Entry::Push {
+                opacity,
+                mode,
+                clips: shifted_clips(clips, by),
+            },
+            Entry::Pop => Entry::Pop,
+        }
+    }
 }
 
 /// One primitive, or one group from its Push to its Pop.

@@ -1,12 +1,14 @@
-ghost use Rattle.std.specs.Prelude.{◌≡◌, ◌↔◌, IsTrue, All};
+ghost use Rattle.std.specs.Prelude.{◌≡◌, ◌↔◌, IsTrue, IfOk, All};
 ghost use Rattle.wr_geom.specs.Bounds.{IsCoordinate};
 ghost use Rattle.blend_rules.specs.Colour.{IsPixel};
 ghost use Rattle.display_list.specs.Facts.{IsBorder};
 ghost use Rattle.primitives.specs.PrimitiveModel.{IsGlyphUse, IsKind};
+ghost use Rattle.primitives.specs.Moves.{CanShiftKind, shifted_kind};
 
+use crate::lists::{copied_glyphs, shifted_glyphs};
 use blend_rules::{Px, know_bytes};
 use containers::Sequence;
-use wr_geom::{MAX_RECT_COORDINATE, Radii, Rect, Widths};
+use wr_geom::{MAX_RECT_COORDINATE, NoMemory, Point, Radii, Rect, Widths};
 
 /// A glyph's mask and the position of its first corner, in pixels within -2^29 and 2^29.
 ///
@@ -79,6 +81,75 @@ impl Kind {
             Kind::Text { colour, glyphs, .. } => {
                 is_pixel(*colour) && are_near(glyphs.as_slice())
             }
+        }
+    }
+
+    /// An equal kind.
+    pub fn copy(&self) -> Result<Kind, NoMemory>
+        ensures { IfOk result (λ kind. kind ≡ self.now) }
+    {
+        Ok(match self {
+            Kind::Solid(colour) => Kind::Solid(*colour),
+            Kind::Image {
+                pipeline,
+                key,
+                generation,
+                u,
+                v,
+            } => Kind::Image {
+                pipeline: *pipeline,
+                key: *key,
+                generation: *generation,
+                u: *u,
+                v: *v,
+            },
+            Kind::Border {
+                widths,
+                top,
+                right,
+                bottom,
+                left,
+                radii,
+            } => Kind::Border {
+                widths: *widths,
+                top: *top,
+                right: *right,
+                bottom: *bottom,
+                left: *left,
+                radii: *radii,
+            },
+            Kind::Text {
+                pipeline,
+                font,
+                colour,
+                glyphs,
+            } => Kind::Text {
+                pipeline: *pipeline,
+                font: *font,
+                colour: *colour,
+                glyphs: copied_glyphs(glyphs)?,
+            },
+        })
+    }
+
+    /// Moved with its rectangle by whole pixels; moved glyphs must stand in range. It takes no memory.
+    pub(crate) fn shift(self, by: Point) -> Kind
+        requires { CanShiftKind by self }
+        ensures { result ≡ shifted_kind self by }
+    {
+        match self {
+            Kind::Text {
+                pipeline,
+                font,
+                colour,
+                glyphs,
+            } => Kind::Text {
+                pipeline,
+                font,
+                colour,
+                glyphs: shifted_glyphs(glyphs, by),
+            },
+            kind => kind,
         }
     }
 }

@@ -10,6 +10,7 @@ mod entry;
 mod image;
 mod kind;
 mod laws;
+mod lists;
 mod primitive;
 mod text;
 

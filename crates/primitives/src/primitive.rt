@@ -1,12 +1,14 @@
 ghost use Rattle.std.specs.Prelude.{◌≡◌, ◌↔◌, IsSome, IfSome, IfOk};
 ghost use Rattle.primitives.specs.Colours.{visible_rect};
+ghost use Rattle.primitives.specs.Moves.{CanShiftPrimitive, shifted_primitive};
 ghost use Rattle.primitives.specs.PrimitiveModel.{IsKind, IsPrimitive};
 
 use crate::Kind;
+use crate::lists::{copied_clips, shifted_clips};
 use clip_masks::{Clip, cut};
 use containers::Sequence;
 use std::marker::Model;
-use wr_geom::Rect;
+use wr_geom::{NoMemory, Point, Rect};
 
 /// What is drawn at once: a kind of picture in a rectangle, under clips, the outermost first.
 ///
@@ -74,5 +76,29 @@ impl Primitive {
         ensures { result ≡ visible_rect self.now }
     {
         cut(self.clips.as_slice(), self.rect)
+    }
+
+    /// An equal primitive.
+    pub fn copy(&self) -> Result<Primitive, NoMemory>
+        ensures { IfOk result (λ p. p ≡ self.now) }
+    {
+        Ok(Primitive {
+            kind: self.kind.copy()?,
+            rect: self.rect,
+            clips: copied_clips(&self.clips)?,
+        })
+    }
+
+    /// Moved by whole pixels, with its clips and glyphs, which must stay in range. It takes no memory.
+    pub fn shift(self, by: Point) -> Primitive
+        requires { CanShiftPrimitive by self }
+        ensures { result ≡ shifted_primitive self by }
+    {
+        let Primitive { kind, rect, clips } = self;
+        Primitive {
+            kind: kind.shift(by),
+            rect: rect.shift(by),
+            clips: shifted_clips(clips, by),
+        }
     }
 }
