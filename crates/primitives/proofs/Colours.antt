@@ -1,5 +1,5 @@
 -- The colours of primitives are pixels, clear where they aren't visible, and whole where they are opaque.
-use Rattle.std.proofs.Common.{◌≡◌, ℕ, ◌+◌, ◌*◌, ◌-◌, ◌%◌, ◌<◌, ◌≤◌, ◌^◌, ℤ, ◌-ℤ◌, List, [], ◌∷◌, length, Option, Some, None, Bool, true, false, if◌then◌else◌, unsigned_abs, refl, sym, ap, ap₂, ◌∙◌, true≢false, arith}
+use Rattle.std.proofs.Common.{◌≡◌, ℕ, ◌+◌, ◌*◌, ◌%◌, ◌<◌, ◌≤◌, ◌^◌, ℤ, ◌-ℤ◌, List, [], ◌∷◌, length, Option, Some, None, Bool, true, false, if◌then◌else◌, unsigned_abs, refl, ap, ◌∙◌, arith}
 use Rattle.std.specs.List.{fold}
 use Rattle.std.proofs.Math.Nat.{mul-le-mul_right}
 use Rattle.std.proofs.lemmas.Nat.{mod_below}
@@ -9,20 +9,20 @@ use Rattle.blend_rules.specs.Colour.{IsPixel, clear, scaled, blended}
 use Rattle.blend_rules.specs.declared.colour.Px.{Px}
 use Rattle.blend_rules.specs.declared.mode.Mode.TheVariants.{Normal}
 use Rattle.blend_rules.proofs.Blends.{scaled_by_full, scaled_by_none, scaled_clear, scaled_is_pixel, clear_is_pixel, blend_is_pixel, opaque_covers}
-use Rattle.clip_masks.specs.Coverage.{chain_coverage, cut_by}
-use Rattle.clip_masks.specs.Outline.{Outline, samples_inside, share, inset_of, sample_points, is_inside}
+use Rattle.clip_masks.specs.Coverage.{chain_coverage}
+use Rattle.clip_masks.specs.Outline.{Outline, samples_inside, sample_points, is_inside}
 use Rattle.clip_masks.proofs.Chains.{chain_byte, beside_cut}
-use Rattle.image_store.specs.Models.{ImageModel, MaskModel, IsImage, IsMask, texel_of, mask_byte}
+use Rattle.image_store.specs.Models.{ImageModel, MaskModel, IsImage, IsMask, mask_byte}
 use Rattle.image_store.specs.StoreModel.{StoreModel, IsStore, image_at, glyph_at}
 use Rattle.primitives.specs.declared.border.Edge.{Edge}
 use Rattle.primitives.specs.declared.border.Sides.{Sides}
 use Rattle.primitives.specs.declared.kind.GlyphUse.{GlyphUse}
 use Rattle.primitives.specs.declared.kind.Kind.{Kind}
 use Rattle.primitives.specs.declared.kind.Kind.TheVariants as kind
-use Rattle.primitives.specs.PrimitiveModel.{PrimitiveModel, IsKind, IsPrimitive}
-use Rattle.primitives.specs.Borders.{border_colour, border_coverage, colour_of_side, side_colour, is_horizontal, vertical_edge, horizontal_edge, pixels_before}
-use Rattle.primitives.specs.Colours.{used, repeated_texel, image_colour, mask_rect, mask_coverage, glyph_coverage, with_glyph, text_colour, kind_colour, primitive_colour, covered_colour, visible_rect}
-use Rattle.primitives.specs.Stacks.{Stack, step}
+use Rattle.primitives.specs.PrimitiveModel.{PrimitiveModel, IsKind}
+use Rattle.primitives.specs.Borders.{border_coverage, colour_of_side, side_colour, is_horizontal, vertical_edge, horizontal_edge, pixels_before}
+use Rattle.primitives.specs.Colours.{used, repeated_texel, mask_rect, mask_coverage, glyph_coverage, with_glyph, kind_colour, primitive_colour, covered_colour}
+use Rattle.primitives.specs.Stacks.{Stack}
 use Rattle.primitives.specs.Facts.{IsOpaque, IsOpaqueImage}
 use Rattle.primitives.specs.Laws.{ColourIsPixel, CoveredIsPixel, ClearWhereNotVisible, OpaqueIsFull, OpaqueReplaces}
 

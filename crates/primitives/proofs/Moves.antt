@@ -1,38 +1,37 @@
 -- Moved primitives and entries do at moved points what they did.
-use Rattle.std.proofs.Common.{◌≡◌, ℕ, ◌+◌, ◌-◌, ℤ, pos, ◌+ℤ◌, ◌-ℤ◌, List, [], ◌∷◌, Option, Bool, if◌then◌else◌, unsigned_abs, refl, sym, ap, ap₂, ◌∙◌, arith}
+use Rattle.std.proofs.Common.{◌≡◌, ℕ, ◌+◌, ◌-◌, ℤ, pos, ◌+ℤ◌, ◌-ℤ◌, List, [], ◌∷◌, Bool, true, false, ◌&&◌, if◌then◌else◌, unsigned_abs, refl, sym, ap, ap₂, ◌∙◌, arith}
 use Rattle.std.specs.List.{fold}
 use Rattle.std.proofs.lemmas.Int.{ints}
-use Rattle.wr_geom.specs.Bounds.{Bounds, holds, shifted}
+use Rattle.wr_geom.specs.Bounds.{Bounds, holds, shifted, intersection}
 use Rattle.wr_geom.specs.declared.point.Point.{Point}
 use Rattle.wr_geom.specs.declared.sides.Radii.{Radii}
 use Rattle.wr_geom.specs.declared.sides.Widths.{Widths}
 use Rattle.wr_geom.specs.Sides.{width_of, height_of}
 use Rattle.display_list.specs.Facts.{IsBorder}
 use Rattle.std.proofs.lemmas.List.Elements.{All-map}
-use Rattle.wr_geom.proofs.Points.{same_bounds, shifted_points}
+use Rattle.wr_geom.proofs.Points.{same_bounds, shifted_points, intersection_points}
 use Rattle.blend_rules.specs.Colour.{clear, scaled, blended}
 use Rattle.blend_rules.specs.declared.colour.Px.{Px}
-use Rattle.blend_rules.specs.declared.mode.Mode.{Mode}
 use Rattle.blend_rules.specs.declared.mode.Mode.TheVariants.{Normal}
-use Rattle.clip_masks.specs.Coverage.{chain_coverage}
+use Rattle.clip_masks.specs.Coverage.{cut_by}
+use Rattle.clip_masks.specs.Clips.{shifted_clips}
+use Rattle.clip_masks.specs.declared.clip.Clip.{Clip}
 use Rattle.clip_masks.specs.Outline.{Outline, samples_inside, share, inset_of, shrunk_by, shifted_outline}
 use Rattle.clip_masks.proofs.Moves.{shifted_samples}
 use Rattle.clip_masks.proofs.Chains.{shifted_chain}
-use Rattle.image_store.specs.Models.{MaskModel}
 use Rattle.image_store.specs.StoreModel.{StoreModel, image_at, glyph_at}
 use Rattle.primitives.specs.declared.border.Edge.{Edge}
 use Rattle.primitives.specs.declared.border.Sides.{Sides}
 use Rattle.primitives.specs.declared.kind.GlyphUse.{GlyphUse}
 use Rattle.primitives.specs.declared.kind.Kind.{Kind}
 use Rattle.primitives.specs.declared.kind.Kind.TheVariants as kind
-use Rattle.primitives.specs.declared.entry.Entry.{Entry}
 use Rattle.primitives.specs.declared.entry.Entry.TheVariants as entry
-use Rattle.primitives.specs.PrimitiveModel.{PrimitiveModel, IsGlyphUse, IsKind}
-use Rattle.primitives.specs.Borders.{edge_of, pixels_before, pixels_after, vertical_edge, horizontal_edge, colour_of_side, side_colour, border_coverage, border_colour}
-use Rattle.primitives.specs.Colours.{used, repeated_texel, image_colour, mask_coverage, glyph_coverage, with_glyph, text_colour, kind_colour, primitive_colour, covered_colour}
-use Rattle.primitives.specs.Moves.{CanShiftKind, shifted_glyph, shifted_glyphs, shifted_kind, shifted_primitive, shifted_entry, shifted_entries}
-use Rattle.primitives.specs.Stacks.{Group, Stack, step, run}
-use Rattle.primitives.specs.Laws.{ShiftedHasColours, ShiftedHasCoveredColours, ShiftedSteps, ShiftedRuns}
+use Rattle.primitives.specs.PrimitiveModel.{IsGlyphUse, IsKind}
+use Rattle.primitives.specs.Borders.{edge_of, pixels_before, pixels_after, vertical_edge, horizontal_edge, colour_of_side, side_colour, border_coverage}
+use Rattle.primitives.specs.Colours.{used, repeated_texel, mask_coverage, glyph_coverage, with_glyph, kind_colour, primitive_colour, covered_colour}
+use Rattle.primitives.specs.Moves.{CanShiftKind, shifted_glyph, shifted_glyphs, shifted_kind, shifted_entries}
+use Rattle.primitives.specs.Stacks.{Stack, step, run}
+use Rattle.primitives.specs.Laws.{ShiftedHasColours, ShiftedHasCoveredColours, ShiftedSteps, ShiftedRuns, ShiftedIsVisible}
 
 distance_moved : (a b d : ℤ) → (a +ℤ d) -ℤ (b +ℤ d) ≡ a -ℤ b
 distance_moved a b d = omega (arith, ints)
@@ -151,3 +150,28 @@ kind_stays b (kind.Solid colour) by h can = h
 kind_stays b (kind.Image pipeline key g u v) by h can = tt
 kind_stays b (kind.Border w top right bottom l radii) by h can = (border_moved b by w radii h.0, h.1, h.2, h.3, h.4)
 kind_stays b (kind.Text pipeline font colour glyphs) by h can = (h.0, All-map IsGlyphUse (λ (g : GlyphUse). shifted_glyph g by) glyphs can)
+
+-- ---- what is visible
+
+-- a rectangle that has another one's moved points
+abbrev IsMoved : Point → Bounds → Bounds → Type 0
+IsMoved by b c = (x y : ℤ) → holds c (x +ℤ by.x) (y +ℤ by.y) ≡ holds b x y
+
+shared_moved : (by : Point) (b c r : Bounds) → IsMoved by b c → IsMoved by (intersection b r) (intersection c (shifted r by))
+shared_moved by b c r h x y =
+    intersection_points c (shifted r by) (x +ℤ by.x) (y +ℤ by.y)
+    ∙ ap₂ (λ (s t : Bool). s && t) (h x y) (shifted_points r by x y)
+    ∙ sym (intersection_points b r x y)
+
+once_moved : (by : Point) (b c r : Bounds) (t : Bool) → IsMoved by b c → IsMoved by (if t then b else intersection b r) (if t then c else intersection c (shifted r by))
+once_moved by b c r true h = h
+once_moved by b c r false h = shared_moved by b c r h
+
+cut_moved : (by : Point) (clips : List Clip) (b c : Bounds) → IsMoved by b c → IsMoved by (cut_by b clips) (cut_by c (shifted_clips clips by))
+unfolding cut_by
+cut_moved by [] b c h = h
+cut_moved by (k ∷ ks) b c h =
+    cut_moved by ks (if k.out then b else intersection b k.shape.rect) (if k.out then c else intersection c (shifted k.shape.rect by)) (once_moved by b c k.shape.rect k.out h)
+
+pub shifted_is_visible : ShiftedIsVisible
+shifted_is_visible p by x y = cut_moved by p.clips p.rect (shifted p.rect by) (shifted_points p.rect by) x y

@@ -1,28 +1,44 @@
 -- Runs of entries: in parts, over balanced lists, and where nothing is visible.
-use Rattle.std.proofs.Common.{◌≡◌, ℕ, zero, suc, ◌+◌, ◌<◌, ◌^◌, ℤ, Bool, true, false, List, [], ◌∷◌, ◌++◌, All, IsTrue, refl, sym, ap, subst, ◌∙◌, true≢false, append_assoc, append-nil, arith}
+use Rattle.std.proofs.Common.{◌≡◌, ℕ, zero, suc, ℤ, true, List, [], ◌∷◌, ◌++◌, take, drop, All, refl, sym, ap, ◌∙◌, true≢false, append_assoc, append-nil, take-append-drop, arith}
 use Rattle.std.proofs.lemmas.List.Elements.{All-head, All-tail, All-cons}
-use Rattle.wr_geom.specs.Bounds.{holds}
 use Rattle.blend_rules.specs.Colour.{IsPixel, clear, scaled, blended}
 use Rattle.blend_rules.specs.declared.colour.Px.{Px}
 use Rattle.blend_rules.specs.declared.mode.Mode.{Mode}
 use Rattle.blend_rules.specs.declared.mode.Mode.TheVariants.{Normal}
 use Rattle.blend_rules.proofs.Blends.{scaled_clear, scaled_is_pixel, clear_is_pixel, blend_is_pixel, clear_source_leaves}
 use Rattle.clip_masks.specs.Coverage.{chain_coverage}
-use Rattle.clip_masks.proofs.Chains.{chain_byte}
+use Rattle.clip_masks.specs.declared.clip.Clip.{Clip}
+use Rattle.clip_masks.proofs.Chains.{chain_byte, chain-append}
 use Rattle.image_store.specs.StoreModel.{StoreModel, IsStore}
 use Rattle.primitives.specs.declared.entry.Entry.{Entry}
 use Rattle.primitives.specs.declared.entry.Entry.TheVariants as entry
-use Rattle.primitives.specs.PrimitiveModel.{PrimitiveModel, IsPrimitive}
-use Rattle.primitives.specs.Colours.{covered_colour, visible_rect}
+use Rattle.primitives.specs.Colours.{primitive_colour, covered_colour}
 use Rattle.primitives.specs.Stacks.{Group, Stack, closed_over, popped, step, run, balanced, IsRow}
 use Rattle.primitives.specs.Stacks as row
 use Rattle.primitives.specs.Facts.{IsEntry, IsHidden, IsGroup, IsStack}
-use Rattle.primitives.specs.Laws.{RunsInParts, BalancedLeavesGroups, BalancedKnowsTopAlone, RowsAreBalanced, RunKeepsPixels, HiddenLeavesStack, HiddenListLeavesStack}
+use Rattle.primitives.specs.Laws.{FullClipsDoNothing, RunsInParts, BalancedLeavesGroups, BalancedKnowsTopAlone, RowsAreBalanced, RunKeepsPixels, HiddenLeavesStack, HiddenListLeavesStack}
 use Rattle.primitives.proofs.Colours.{covered_is_pixel, clear_where_not_visible}
 
 pub runs_in_parts : RunsInParts
 runs_in_parts store x y [] fs s = refl
 runs_in_parts store x y (e ∷ es) fs s = runs_in_parts store x y es fs (step store x y e s)
+
+-- ---- without clips that leave all
+
+-- what the first n clips leave, the others cut
+chain_split : (n : ℕ) (clips : List Clip) (outer : ℕ) (x y : ℤ) → chain_coverage clips outer x y ≡ chain_coverage (drop n clips) (chain_coverage (take n clips) outer x y) x y
+chain_split n clips outer x y = ap (λ (cs : List Clip). chain_coverage cs outer x y) (sym (take-append-drop n clips)) ∙ chain-append (take n clips) (drop n clips) outer x y
+
+cover_without : (n : ℕ) (clips : List Clip) (x y : ℤ) → chain_coverage (take n clips) 255 x y ≡ 255 → chain_coverage (drop n clips) 255 x y ≡ chain_coverage clips 255 x y
+cover_without n clips x y h = sym (chain_split n clips 255 x y ∙ ap (λ (k : ℕ). chain_coverage (drop n clips) k x y) h)
+
+pub full_clips_do_nothing : FullClipsDoNothing
+unfolding covered_colour primitive_colour
+full_clips_do_nothing store x y (entry.Primitive p) n s h =
+    ap (λ (k : ℕ). let t : Stack = record { top = blended Normal (scaled (primitive_colour store p x y) k) s.top; groups = s.groups } in t) (cover_without n p.clips x y h)
+full_clips_do_nothing store x y (entry.Push o m clips) n s h =
+    ap (λ (k : ℕ). let t : Stack = record { top = clear; groups = record { backdrop = s.top; opacity = o; mode = m; cover = k } ∷ s.groups } in t) (cover_without n clips x y h)
+full_clips_do_nothing store x y entry.Pop n s h = refl
 
 -- ---- balanced lists
 

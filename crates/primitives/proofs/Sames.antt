@@ -1,9 +1,9 @@
 -- `==` holds of equal primitives and entries alone.
-use Rattle.std.proofs.Common.{◌≡◌, ℕ, Bool, true, ◌&&◌, eqb, int_eq, List, Option, Some, None, refl, ap, ap₂, ◌∙◌}
+use Rattle.std.proofs.Common.{◌≡◌, ℕ, Bool, true, ◌&&◌, eqb, int_eq, List, Option, Some, None, refl, ap}
 use Rattle.std.specs.Option.{option_eq}
 use Rattle.std.proofs.lemmas.Bool.{and_parts, eqb-true}
 use Rattle.std.proofs.lemmas.Bool.Decides.{Decides-int_eq}
-use Rattle.wr_geom.specs.Bounds.{Bounds, same_rect}
+use Rattle.wr_geom.specs.Bounds.{same_rect}
 use Rattle.wr_geom.specs.Sides.{same_radii}
 use Rattle.wr_geom.specs.declared.sides.Radii.{Radii}
 use Rattle.wr_geom.specs.declared.sides.Widths.{Widths}
@@ -15,7 +15,6 @@ use Rattle.clip_masks.specs.declared.clip.Clip.{Clip}
 use Rattle.primitives.specs.declared.kind.GlyphUse.{GlyphUse}
 use Rattle.primitives.specs.declared.kind.Kind.{Kind}
 use Rattle.primitives.specs.declared.kind.Kind.TheVariants as kind
-use Rattle.primitives.specs.declared.entry.Entry.{Entry}
 use Rattle.primitives.specs.declared.entry.Entry.TheVariants as entry
 use Rattle.primitives.specs.PrimitiveModel.{PrimitiveModel}
 

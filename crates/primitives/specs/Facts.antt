@@ -1,5 +1,5 @@
 -- What holds of entries and of stacks of colours.
-use Rattle.std.specs.Prelude.{◌≡◌, ◌<◌, ◌^◌, ℕ, ℤ, Option, Some, None, List, All, IsFalse}
+use Rattle.std.specs.Prelude.{◌≡◌, ◌<◌, ◌^◌, ℤ, Option, Some, None, All, IsFalse}
 use Rattle.wr_geom.specs.Bounds.{holds}
 use Rattle.blend_rules.specs.Colour.{IsPixel}
 use Rattle.blend_rules.specs.Pixels.{AreOpaque}

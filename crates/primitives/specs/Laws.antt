@@ -1,5 +1,5 @@
 -- What holds of primitives and of runs of entries, as laws on the definitions.
-use Rattle.std.specs.Prelude.{◌≡◌, ℤ, ◌+ℤ◌, ◌++◌, List, All, IsTrue, IsFalse}
+use Rattle.std.specs.Prelude.{◌≡◌, ℕ, ℤ, ◌+ℤ◌, ◌++◌, List, take, All, IsTrue, IsFalse}
 use Rattle.wr_geom.specs.Bounds.{holds}
 use Rattle.wr_geom.specs.declared.point.Point.{Point}
 use Rattle.blend_rules.specs.Colour.{IsPixel, clear}
@@ -8,6 +8,7 @@ use Rattle.image_store.specs.StoreModel.{StoreModel, IsStore}
 use Rattle.primitives.specs.PrimitiveModel.{PrimitiveModel, IsPrimitive}
 use Rattle.primitives.specs.Colours.{primitive_colour, covered_colour, visible_rect}
 use Rattle.primitives.specs.Moves.{shifted_primitive, shifted_entry, shifted_entries}
+use Rattle.primitives.specs.Clipping.{clips_of, without_clips}
 use Rattle.primitives.specs.Stacks.{Stack, step, run, balanced, IsRow}
 use Rattle.primitives.specs.Facts.{IsOpaque, IsEntry, IsHidden, IsStack}
 use Rattle.primitives.specs.declared.entry.Entry.{Entry}
@@ -54,7 +55,15 @@ ShiftedSteps = (store : StoreModel) (e : Entry) (by : Point) (x y : ℤ) (s : St
 abbrev pub ShiftedRuns : Type 0
 ShiftedRuns = (store : StoreModel) (es : List Entry) (by : Point) (x y : ℤ) (s : Stack) → run store (x +ℤ by.x) (y +ℤ by.y) (shifted_entries es by) s ≡ run store x y es s
 
+-- its visible rectangle has the moved points
+abbrev pub ShiftedIsVisible : Type 0
+ShiftedIsVisible = (p : PrimitiveModel) (by : Point) (x y : ℤ) → holds (visible_rect (shifted_primitive p by)) (x +ℤ by.x) (y +ℤ by.y) ≡ holds (visible_rect p) x y
+
 -- ---- runs
+
+-- an entry without clips that leave all of a point does there what it did
+abbrev pub FullClipsDoNothing : Type 0
+FullClipsDoNothing = (store : StoreModel) (x y : ℤ) (e : Entry) (n : ℕ) (s : Stack) → chain_coverage (take n (clips_of e)) 255 x y ≡ 255 → step store x y (without_clips e n) s ≡ step store x y e s
 
 -- entries run part by part
 abbrev pub RunsInParts : Type 0

@@ -1,4 +1,5 @@
 pub mod Borders
+pub mod Clipping
 pub mod Colours
 pub mod Facts
 pub mod Laws

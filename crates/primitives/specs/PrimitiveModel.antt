@@ -1,5 +1,5 @@
 -- A primitive as contracts see it, and what every one keeps.
-use Rattle.std.specs.Prelude.{ℕ, List, All}
+use Rattle.std.specs.Prelude.{List, All}
 use Rattle.wr_geom.specs.Bounds.{Bounds, IsCoordinate}
 use Rattle.blend_rules.specs.Colour.{IsPixel}
 use Rattle.clip_masks.specs.declared.clip.Clip.{Clip}

@@ -148,7 +148,11 @@ fn side_colour(rect: Rect, w: Widths, colours: Sides, x: i32, y: i32) -> Px
     requires { HasPixel rect x y }
     ensures { result ≡ side_colour rect w colours x y }
 {
-    colour_of_side(vertical_edge(rect, w, x), horizontal_edge(rect, w, y), colours)
+    colour_of_side(
+        vertical_edge(rect, w, x),
+        horizontal_edge(rect, w, y),
+        colours,
+    )
 }
 
 /// A border's colour at a pixel of its rectangle.

@@ -1,4 +1,5 @@
-ghost use Rattle.std.specs.Prelude.{◌≡◌, IfOk};
+ghost use Rattle.std.specs.Prelude.{◌≡◌, ◌≤◌, length, IfOk};
+ghost use Rattle.primitives.specs.Clipping.{clips_of, without_clips};
 ghost use Rattle.primitives.specs.Moves.{CanShiftEntry, shifted_entry};
 
 use crate::Primitive;
@@ -24,6 +25,40 @@ pub enum Entry {
 }
 
 impl Entry {
+    /// Its own clips, the outermost first.
+    pub fn clips(&self) -> &[Clip]
+        ensures { result.now ≡ clips_of self.now }
+    {
+        match self {
+            Entry::Primitive(primitive) => primitive.clips(),
+            Entry::Push { clips, .. } => clips.as_slice(),
+            Entry::Pop => &[],
+        }
+    }
+
+    /// Without its first `count` clips. It takes no memory.
+    pub fn without_clips(self, count: usize) -> Entry
+        requires { count ≤ length (clips_of self) }
+        ensures { result ≡ without_clips self count }
+    {
+        match self {
+            Entry::Primitive(primitive) => Entry::Primitive(primitive.without_clips(count)),
+            Entry::Push {
+                opacity,
+                mode,
+                mut clips,
+            } => {
+                clips.remove_front(count);
+                Entry::Push {
+                    opacity,
+                    mode,
+                    clips,
+                }
+            }
+            Entry::Pop => Entry::Pop,
+        }
+    }
+
     /// An equal entry.
     pub fn copy(&self) -> Result<Entry, NoMemory>
         ensures { IfOk result (λ entry. entry ≡ self.now) }

@@ -1,16 +1,18 @@
 //! Laws of the definitions. Each function is empty: its contract is the law.
 
-ghost use Rattle.std.specs.Prelude.{◌≡◌, ◌↔◌, true};
+ghost use Rattle.std.specs.Prelude.{◌≡◌, ◌<◌, ◌^◌, true};
+ghost use Rattle.primitives.specs.Facts.{IsEntry};
+ghost use Rattle.primitives.specs.PrimitiveModel.{IsPrimitive};
 ghost use Rattle.blend_rules.specs.declared.mode.Mode.{Mode as ModeValue};
 ghost use Rattle.containers.specs.Laws.{TellsEqual, TiesEqual};
 ghost use Rattle.primitives.specs.declared.entry.Entry.{Entry as EntryValue};
 ghost use Rattle.primitives.specs.declared.kind.GlyphUse.{GlyphUse as GlyphValue};
 ghost use Rattle.primitives.specs.declared.kind.Kind.{Kind as KindValue};
 ghost use Rattle.primitives.specs.Laws.{ColourIsPixel, CoveredIsPixel, ClearWhereNotVisible, OpaqueIsFull, OpaqueReplaces};
-ghost use Rattle.primitives.specs.Laws.{ShiftedHasColours, ShiftedHasCoveredColours, ShiftedSteps, ShiftedRuns};
-ghost use Rattle.primitives.specs.Laws.{RunsInParts, BalancedLeavesGroups, BalancedKnowsTopAlone, RowsAreBalanced, RunKeepsPixels, HiddenLeavesStack, HiddenListLeavesStack};
+ghost use Rattle.primitives.specs.Laws.{ShiftedHasColours, ShiftedHasCoveredColours, ShiftedSteps, ShiftedRuns, ShiftedIsVisible};
+ghost use Rattle.primitives.specs.Laws.{FullClipsDoNothing, RunsInParts, BalancedLeavesGroups, BalancedKnowsTopAlone, RowsAreBalanced, RunKeepsPixels, HiddenLeavesStack, HiddenListLeavesStack};
 
-use crate::{Entry, GlyphUse, Kind};
+use crate::{Entry, GlyphUse, Kind, Primitive};
 use blend_rules::Mode;
 use clip_masks::{Clip, clip_order_laws};
 use containers::sequence_laws;
@@ -31,11 +33,13 @@ pub fn shift_laws()
     ensures covered { ShiftedHasCoveredColours }
     ensures steps { ShiftedSteps }
     ensures runs { ShiftedRuns }
+    ensures visible { ShiftedIsVisible }
 {}
 
 /// What holds of entries that run over a stack of colours. It does nothing.
 pub fn run_laws()
     ensures parts { RunsInParts }
+    ensures full_clips { FullClipsDoNothing }
     ensures groups { BalancedLeavesGroups }
     ensures top { BalancedKnowsTopAlone }
     ensures rows { RowsAreBalanced }
@@ -52,6 +56,29 @@ pub fn entry_order_laws()
     exact_laws::<Entry>();
     entry_equality();
 }
+
+/// What the type of an entry knows of it, for whoever reads one out of memory. It does nothing.
+pub fn know_entry(entry: &Entry)
+    ensures { IsEntry entry.now }
+{
+    match entry {
+        Entry::Primitive(primitive) => know_primitive(primitive),
+        Entry::Push { opacity, .. } => know_byte(*opacity),
+        Entry::Pop => {}
+    }
+}
+
+/// What the type of a primitive knows of it. It does nothing.
+fn know_primitive(p: &Primitive)
+    ensures { IsPrimitive p.now }
+{
+    let _rect = p.rect();
+}
+
+/// A byte is below 256. It does nothing.
+fn know_byte(byte: u8)
+    ensures { byte < 2 ^ 8 }
+{}
 
 /// Where `==` holds of equal values alone, it and the order tell different ones apart. It does nothing.
 fn exact_laws<T: Ord>()

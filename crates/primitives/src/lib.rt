@@ -17,5 +17,5 @@ mod text;
 pub use colour::{colour_at, is_opaque, visible};
 pub use entry::{Entry, Top};
 pub use kind::{GlyphUse, Kind};
-pub use laws::{colour_laws, entry_order_laws, run_laws, shift_laws};
+pub use laws::{colour_laws, entry_order_laws, know_entry, run_laws, shift_laws};
 pub use primitive::Primitive;

@@ -1,4 +1,5 @@
-ghost use Rattle.std.specs.Prelude.{◌≡◌, ◌↔◌, IsSome, IfSome, IfOk};
+ghost use Rattle.std.specs.Prelude.{◌≡◌, ◌↔◌, ◌≤◌, length, IsSome, IfSome, IfOk};
+ghost use Rattle.primitives.specs.Clipping.{primitive_without_clips};
 ghost use Rattle.primitives.specs.Colours.{visible_rect};
 ghost use Rattle.primitives.specs.Moves.{CanShiftPrimitive, shifted_primitive};
 ghost use Rattle.primitives.specs.PrimitiveModel.{IsKind, IsPrimitive};
@@ -100,5 +101,19 @@ impl Primitive {
             rect: rect.shift(by),
             clips: shifted_clips(clips, by),
         }
+    }
+
+    /// Without its first `count` clips. It takes no memory.
+    pub fn without_clips(self, count: usize) -> Primitive
+        requires { count ≤ length self.clips }
+        ensures { result ≡ primitive_without_clips self count }
+    {
+        let Primitive {
+            kind,
+            rect,
+            mut clips,
+        } = self;
+        clips.remove_front(count);
+        Primitive { kind, rect, clips }
     }
 }
