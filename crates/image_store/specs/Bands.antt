@@ -1,5 +1,5 @@
 -- Bands of rows, in which an image keeps its colours by planes.
-use Rattle.std.specs.Prelude.{◌≡◌, ℕ, ◌+◌, ◌-◌, ◌*◌, ◌/◌, ◌==◌, ◌≤◌, ◌<◌, ◌^◌, min, List, [], ◌∷◌, ◌++◌, length, map, count_by, take, drop, slice_index, slice_index_or, Option, None, Result}
+use Rattle.std.specs.Prelude.{◌≡◌, ℕ, ◌+◌, ◌-◌, ◌*◌, ◌/◌, ◌==◌, ◌≤◌, ◌<◌, ◌^◌, min, List, [], ◌∷◌, ◌++◌, length, map, count_by, take, drop, slice_index, slice_index_or, Option, Result}
 use Rattle.std.specs.declared.rc.Rc.{Rc}
 use Rattle.blend_rules.specs.declared.colour.Px.{Px}
 use Rattle.blend_rules.specs.declared.plane.Plane.{Plane}
@@ -66,7 +66,7 @@ pub record AreImageBands (w h : ℕ) (bands : List (List Px)) : Type 0 where
   pub wide : IsSide w
   pub high : IsSide h
   pub banded : AreBands (64 * w) (h * w) bands
-  pub pixels : (k : ℕ) → HasPixels (band_at bands k)
+  pub sound : (k : ℕ) → HasPixels (band_at bands k)
 
 -- an image with colours written into a row from a column on
 abbrev pub with_row : ℕ → ℕ → List Px → ImageModel → ImageModel

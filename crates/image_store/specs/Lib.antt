@@ -7,3 +7,4 @@ pub mod Outcome
 pub mod Bands
 pub mod Keyed
 pub mod StoreCode
+pub mod Laws

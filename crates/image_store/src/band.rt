@@ -1,10 +1,14 @@
 //! Some rows of an image, by planes.
 
-ghost use Rattle.std.specs.Prelude.{◌≡◌, ◌<◌, ◌≤◌, ◌+◌, ◌*◌, ◌/◌, ℕ, length, replicate, slice_index, IfOk, IfErr, IsTrue, ◌↔◌};
+ghost use Rattle.std.specs.Prelude.{◌≡◌, ◌<◌, ◌≤◌, ◌+◌, ◌*◌, ◌/◌, ◌^◌, None, ℕ, length, replicate, slice_index, IfOk, IfErr, IsTrue, ◌↔◌};
 ghost use Rattle.blend_rules.specs.Pixels.{pixels, nth_pixel, written, AreOpaque};
 ghost use Rattle.blend_rules.specs.Planes.{channel};
-ghost use Rattle.image_store.specs.Bands.{HasPixels};
+ghost use Rattle.image_store.specs.Bands.{HasPixels, tested};
+ghost use Rattle.image_store.specs.Changes.{bad_from};
+ghost use Rattle.image_store.specs.Outcome.{Refuses, NamesTexelBelow};
 
+use crate::StoreError;
+use crate::check::first_bad_where;
 use crate::planes::{count_opaque, split_planes};
 use blend_rules::{Plane, Px};
 use std::alloc::{AllocError, Global};
@@ -33,18 +37,26 @@ impl Model for Band {
 }
 
 impl Band {
-    /// The colours that interleaved bytes spell.
-    pub(crate) fn new(alloc: Global, bytes: &[u8]) -> Result<Band, AllocError>
+    /// The colours that interleaved bytes spell, the first of which has a number. They are tested and taken apart in one
+    /// pass; the first that isn't premultiplied is looked for only where one may be.
+    pub(crate) fn new(alloc: Global, bytes: &[u8], number: usize) -> Result<Band, StoreError>
         requires whole { length bytes.now ≡ 4 * (length bytes.now / 4) }
-        requires pixels { HasPixels (pixels bytes.now) }
-        ensures { IfOk result (λ band. band ≡ pixels bytes.now) }
+        requires room { number + length bytes.now / 4 ≤ 2 ^ 32 }
+        ensures value { IfOk result (λ band. band ≡ pixels bytes.now) }
+        ensures pixels { IfOk result (λ band. HasPixels (pixels bytes.now)) }
+        ensures sound { IfOk result (λ band. bad_from number (pixels bytes.now) ≡ None) }
+        ensures refused { IfErr result (λ e. Refuses e (tested (bad_from number (pixels bytes.now)))) }
+        ensures within { IfErr result (λ e. NamesTexelBelow (number + length bytes.now / 4) e) }
     {
         let size = bytes.len() / 4;
         let mut blue = zeros(alloc, size)?;
         let mut green = zeros(alloc, size)?;
         let mut red = zeros(alloc, size)?;
         let mut alpha = zeros(alloc, size)?;
-        split_planes(bytes, 0, &mut blue, &mut green, &mut red, &mut alpha);
+        let over = split_planes(bytes, 0, &mut blue, &mut green, &mut red, &mut alpha);
+        if let Some(i) = first_bad_where(over, bytes, number) {
+            return Err(StoreError::BadPixels(i as u32));
+        }
         let count = count_opaque(&alpha);
         Ok(Band {
             blue,
@@ -56,7 +68,8 @@ impl Band {
     }
 
     /// The colour at an index.
-    
+
+    #[tactic(auto, using(crate::proofs::Weaving::weaving))]
     pub(crate) fn texel(&self, i: usize) -> Px
         requires { i < length self.now }
         ensures { result ≡ nth_pixel self.now i }
@@ -70,7 +83,8 @@ impl Band {
     }
 
     /// The bytes of a plane.
-    
+
+    #[tactic(auto, using(crate::proofs::Weaving::weaving))]
     pub(crate) fn plane(&self, plane: Plane) -> &[u8]
         ensures len { length result.now ≡ length self.now }
         ensures bytes { (i : ℕ) → i < length self.now → slice_index result.now i ≡ channel plane (nth_pixel self.now i) }
@@ -91,7 +105,8 @@ impl Band {
     }
 
     /// Writes the colours that interleaved bytes spell from an index on.
-    
+
+    #[tactic(auto, using(crate::proofs::Weaving::weaving))]
     pub(crate) fn write(&mut self, at: usize, bytes: &[u8])
         requires whole { length bytes.now ≡ 4 * (length bytes.now / 4) }
         requires room { at + length bytes.now / 4 ≤ length self.old }
@@ -101,7 +116,7 @@ impl Band {
         let old = self.count;
         let end = at + bytes.len() / 4;
         let gone = count_opaque(&self.alpha[at..end]);
-        split_planes(
+        let _over = split_planes(
             bytes,
             at,
             &mut self.blue,

@@ -30,3 +30,18 @@ pub(crate) fn first_bad_texel(bytes: &[u8], number: usize) -> Option<usize>
     }
     None
 }
+
+/// The same, where a number tells whether there may be one.
+#[tactic(auto, using(crate::proofs::Checking::none_bad))]
+pub(crate) fn first_bad_where(over: u8, bytes: &[u8], number: usize) -> Option<usize>
+    requires room { number + length bytes.now / 4 ≤ 2 ^ 32 }
+    requires sound { over ≡ 0 → HasPixels (pixels bytes.now) }
+    ensures value { result ≡ bad_from number (pixels bytes.now) }
+    ensures within { IfSome result (λ i. i < number + length bytes.now / 4) }
+    ensures pixels { result ≡ None → HasPixels (pixels bytes.now) }
+{
+    if over == 0 {
+        return None;
+    }
+    first_bad_texel(bytes, number)
+}

@@ -2,7 +2,7 @@
 
 ghost use Rattle.std.specs.Prelude.{◌≡◌, ◌-◌, ◌^◌, min, OnOk, OnErr};
 ghost use Rattle.std.specs.FinMap as map;
-ghost use Rattle.image_store.specs.Models.{image_area, mask_area};
+ghost use Rattle.image_store.specs.Models.{IsImage, image_area, mask_area};
 ghost use Rattle.image_store.specs.StoreModel.{or_empty, put_group, sum_of};
 
 use crate::keyed_images::KeyedImages;
@@ -21,6 +21,7 @@ pub(crate) fn put_image(
 ) -> Result<(), AllocError>
     ensures ok { OnOk result (pipelines.new ≡ map.insert pipelines.old pipeline (map.insert (or_empty (map.get pipelines.old pipeline)) key image)) }
     ensures err { OnErr result (pipelines.new ≡ pipelines.old) }
+    ensures image { OnOk result (IsImage image) }
 {
     match pipelines.get_mut(pipeline) {
         Some(images) => {

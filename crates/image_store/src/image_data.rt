@@ -210,6 +210,7 @@ impl ImageData {
 
 /// Other colours into a band, which is copied first if it has other owners.
 
+#[tactic(auto, using(crate::proofs::Lists::lengths, crate::proofs::Checking::pixels_written))]
 fn write_shared(band: &mut Rc<Band>, at: usize, bytes: &[u8]) -> Result<(), AllocError>
     requires whole { length bytes.now ≡ 4 * (length bytes.now / 4) }
     requires room { at + length bytes.now / 4 ≤ length band.old.value }

@@ -1,6 +1,6 @@
 //! The images of one pipeline.
 
-ghost use Rattle.std.specs.Prelude.{◌≡◌, ◌+◌, ◌≤◌, ◌^◌, ◌<◌, [], Some, None, true, false, IfOk, OnOk, OnErr, ℕ};
+ghost use Rattle.std.specs.Prelude.{◌≡◌, ◌+◌, ◌≤◌, ◌^◌, ◌<◌, [], Some, None, true, false, IfOk, OnOk, OnErr, length};
 ghost use Rattle.std.specs.Option.{option_copied};
 ghost use Rattle.std.specs.FinMap as map;
 ghost use Rattle.image_store.specs.Models.{ImageModel, IsImage, image_area};
@@ -83,6 +83,7 @@ impl KeyedImages {
     pub(crate) fn insert(&mut self, key: u32, image: Image) -> Result<(), AllocError>
         ensures ok { OnOk result (self.new ≡ map.insert self.old key image) }
         ensures err { OnErr result (self.new ≡ self.old) }
+        ensures image { OnOk result (IsImage image) }
     {
         let (count, area) = self.counts_with(key, &image)?;
         self.gone.reserve(count)?;
@@ -97,31 +98,40 @@ impl KeyedImages {
     pub(crate) fn remove(&mut self, key: u32)
         ensures { self.new ≡ map.remove self.old key }
     {
-        let area = match self.get(key) {
-            Some(image) => area_of(image),
-            None => return,
-        };
-        if !take_out(&mut self.images, key) {
-            self.gone.push_reserved(key);
+        if self.get(key).is_none() {
+            return;
         }
-        self.count -= 1;
-        self.area -= area;
+        let (count, area) = self.counts_without(key);
+        remove_key(&mut self.images, &mut self.gone, key);
+        self.count = count;
+        self.area = area;
     }
 
     /// The number of images and their pixels, with one at a key.
     fn counts_with(&self, key: u32, image: &Image) -> Result<(usize, u64), AllocError>
         ensures count { IfOk result (λ counts. counts.0 ≡ map.len (map.insert self.now key image.now)) }
         ensures area { IfOk result (λ counts. counts.1 ≡ sum_of image_area (map.insert self.now key image.now)) }
+        ensures image { IfOk result (λ counts. IsImage image.now) }
     {
-        let (others, area) = match self.get(key) {
-            Some(old) => (self.count - 1, self.area - area_of(old)),
-            None => (self.count, self.area),
-        };
-        let (Some(count), Some(area)) = (others.checked_add(1), area.checked_add(area_of(image)))
-        else {
+        let (others, area) = self.counts_without(key);
+        let Some(count) = others.checked_add(1) else {
             return Err(AllocError);
         };
-        Ok((count, area))
+        match area.checked_add(area_of(image)) {
+            Some(area) => Ok((count, area)),
+            None => Err(AllocError),
+        }
+    }
+
+    /// The number of images and their pixels, without the one at a key.
+    fn counts_without(&self, key: u32) -> (usize, u64)
+        ensures count { result.0 ≡ map.len (map.remove self.now key) }
+        ensures area { result.1 ≡ sum_of image_area (map.remove self.now key) }
+    {
+        match self.get(key) {
+            Some(image) => (self.count - 1, self.area - area_of(image)),
+            None => (self.count, self.area),
+        }
     }
 }
 
@@ -189,6 +199,18 @@ fn put(images: &mut Shared<NumberMap<Image>>, key: u32, image: Image) -> Result<
 {
     images.write()?.insert(key, image)?;
     Ok(())
+}
+
+/// Removes an image from the map, or keeps its key among those that are gone.
+fn remove_key(images: &mut Shared<NumberMap<Image>>, gone: &mut Vec<u32>, key: u32)
+    requires { length gone.old.items < gone.old.cap }
+    ensures value { without_keys images.new gone.new.items ≡ map.remove (without_keys images.old gone.old.items) key }
+    ensures length { length gone.new.items ≤ length gone.old.items + 1 }
+    ensures room { gone.new.cap ≡ gone.old.cap }
+{
+    if !take_out(images, key) {
+        gone.push_reserved(key);
+    }
 }
 
 /// Takes an image out of the map, unless this takes memory that isn't there.

@@ -74,13 +74,19 @@ impl KeyedMasks {
     fn area_with(&self, glyph: u32, mask: &Mask) -> Result<u64, AllocError>
         ensures { IfOk result (λ area. area ≡ sum_of mask_area (map.insert self.now glyph mask.now)) }
     {
-        let others = match self.get(glyph) {
-            Some(old) => self.area - area_of(old),
-            None => self.area,
-        };
-        match others.checked_add(area_of(mask)) {
+        match self.area_without(glyph).checked_add(area_of(mask)) {
             Some(area) => Ok(area),
             None => Err(AllocError),
+        }
+    }
+
+    /// The pixels of all masks, without the one at a glyph.
+    fn area_without(&self, glyph: u32) -> u64
+        ensures { result ≡ sum_of mask_area (map.remove self.now glyph) }
+    {
+        match self.get(glyph) {
+            Some(mask) => self.area - area_of(mask),
+            None => self.area,
         }
     }
 }

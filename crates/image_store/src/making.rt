@@ -9,18 +9,8 @@ ghost use Rattle.image_store.specs.Outcome.{Refuses, NamesTexelBelow};
 
 use crate::StoreError;
 use crate::band::Band;
-use crate::check::first_bad_texel;
-use std::alloc::{AllocError, Global};
+use std::alloc::Global;
 use std::rc::Rc;
-
-fn shared_band(alloc: Global, bytes: &[u8]) -> Result<Rc<Band>, AllocError>
-    requires whole { length bytes.now ≡ 4 * (length bytes.now / 4) }
-    requires pixels { HasPixels (pixels bytes.now) }
-    ensures { IfOk result (λ band. band.value ≡ pixels bytes.now) }
-{
-    let band = Band::new(alloc, bytes)?;
-    Ok(Rc::new(alloc, band)?)
-}
 
 /// A band of texels, the first of which has a number.
 fn band_of(alloc: Global, bytes: &[u8], number: usize) -> Result<Rc<Band>, StoreError>
@@ -32,10 +22,10 @@ fn band_of(alloc: Global, bytes: &[u8], number: usize) -> Result<Rc<Band>, Store
     ensures refused { IfErr result (λ e. Refuses e (tested (bad_from number (pixels bytes.now)))) }
     ensures within { IfErr result (λ e. NamesTexelBelow (number + length bytes.now / 4) e) }
 {
-    if let Some(i) = first_bad_texel(bytes, number) {
-        return Err(StoreError::BadPixels(i as u32));
+    match Band::new(alloc, bytes, number) {
+        Ok(band) => Ok(Rc::new(alloc, band)?),
+        Err(error) => Err(error),
     }
-    Ok(shared_band(alloc, bytes)?)
 }
 
 /// The bands of all rows.

@@ -1,11 +1,15 @@
 //! Interleaved colours taken apart into their planes.
 
 ghost use Rattle.std.specs.Prelude.{◌≡◌, ◌<◌, ◌≤◌, ◌+◌, ◌*◌, ◌/◌, ℕ, length, slice_index};
-ghost use Rattle.image_store.specs.Bands.{opaque_count, IsSplit};
+ghost use Rattle.blend_rules.specs.Colour.{IsPixel, colour_from};
+ghost use Rattle.blend_rules.specs.Pixels.{pixels};
+ghost use Rattle.image_store.specs.Bands.{HasPixels, opaque_count, IsSplit};
 ghost use Rattle.blend_rules.specs.declared.plane.Plane.TheVariants.{B, G, R, A};
 
-/// The bytes of colours, each into its plane.
-fn split_texels(bytes: &[u8], b: &mut [u8], g: &mut [u8], r: &mut [u8], a: &mut [u8])
+use blend_rules::Px;
+
+/// The bytes of colours, each into its plane. Gives by how much a colour byte exceeds its alpha at most.
+fn split_texels(bytes: &[u8], b: &mut [u8], g: &mut [u8], r: &mut [u8], a: &mut [u8]) -> u8
     requires bytes { length bytes.now ≡ 4 * length b.old }
     requires green { length g.old ≡ length b.old }
     requires red { length r.old ≡ length b.old }
@@ -14,13 +18,32 @@ fn split_texels(bytes: &[u8], b: &mut [u8], g: &mut [u8], r: &mut [u8], a: &mut 
     ensures green { (i : ℕ) → i < length b.old → slice_index g.new i ≡ slice_index bytes.now (4 * i + 1) }
     ensures red { (i : ℕ) → i < length b.old → slice_index r.new i ≡ slice_index bytes.now (4 * i + 2) }
     ensures alpha { (i : ℕ) → i < length b.old → slice_index a.new i ≡ slice_index bytes.now (4 * i + 3) }
+    ensures sound { result ≡ 0 → (i : ℕ) → i < length b.old → IsPixel (colour_from bytes.now (4 * i)) }
 {
+    let mut over = 0u8;
     for i in 0..b.len() {
-        b[i] = bytes[4 * i];
-        g[i] = bytes[4 * i + 1];
-        r[i] = bytes[4 * i + 2];
-        a[i] = bytes[4 * i + 3];
+        let p = Px {
+            b: bytes[4 * i],
+            g: bytes[4 * i + 1],
+            r: bytes[4 * i + 2],
+            a: bytes[4 * i + 3],
+        };
+        b[i] = p.b;
+        g[i] = p.g;
+        r[i] = p.r;
+        a[i] = p.a;
+        over = most_over(over, p);
     }
+    over
+}
+
+/// The greater of a number and of how much a colour's bytes exceed its alpha.
+#[inline(always)]
+fn most_over(over: u8, p: Px) -> u8
+    ensures before { result ≡ 0 → over ≡ 0 }
+    ensures here { result ≡ 0 → IsPixel p }
+{
+    over.max(p.b.max(p.g).max(p.r).saturating_sub(p.a))
 }
 
 /// How many bytes are 255.
@@ -30,8 +53,8 @@ pub(crate) fn count_opaque(alpha: &[u8]) -> usize
     alpha.iter().filter(|a| **a == 255).count()
 }
 
-/// The bytes of colours, each into its plane from an index on.
-fn split_into(bytes: &[u8], at: usize, b: &mut [u8], g: &mut [u8], r: &mut [u8], a: &mut [u8])
+/// The bytes of colours, each into its plane from an index on. Gives 0 only where all are premultiplied.
+fn split_into(bytes: &[u8], at: usize, b: &mut [u8], g: &mut [u8], r: &mut [u8], a: &mut [u8]) -> u8
     requires whole { length bytes.now ≡ 4 * (length bytes.now / 4) }
     requires room { at + length bytes.now / 4 ≤ length b.old }
     requires green { length g.old ≡ length b.old }
@@ -41,6 +64,7 @@ fn split_into(bytes: &[u8], at: usize, b: &mut [u8], g: &mut [u8], r: &mut [u8],
     ensures green { IsSplit G bytes.now at g.old g.new }
     ensures red { IsSplit R bytes.now at r.old r.new }
     ensures alpha { IsSplit A bytes.now at a.old a.new }
+    ensures sound { result ≡ 0 → HasPixels (pixels bytes.now) }
 {
     let end = at + bytes.len() / 4;
     split_texels(
@@ -49,10 +73,10 @@ fn split_into(bytes: &[u8], at: usize, b: &mut [u8], g: &mut [u8], r: &mut [u8],
         &mut g[at..end],
         &mut r[at..end],
         &mut a[at..end],
-    );
+    )
 }
 
-/// The bytes of colours, each into its plane from an index on.
+/// The bytes of colours, each into its plane from an index on. Gives 0 only where all are premultiplied.
 pub(crate) fn split_planes(
     bytes: &[u8],
     at: usize,
@@ -60,7 +84,7 @@ pub(crate) fn split_planes(
     g: &mut Vec<u8>,
     r: &mut Vec<u8>,
     a: &mut Vec<u8>,
-)
+) -> u8
     requires whole { length bytes.now ≡ 4 * (length bytes.now / 4) }
     requires room { at + length bytes.now / 4 ≤ length b.old.items }
     requires green { length g.old.items ≡ length b.old.items }
@@ -70,6 +94,7 @@ pub(crate) fn split_planes(
     ensures green { IsSplit G bytes.now at g.old.items g.new.items }
     ensures red { IsSplit R bytes.now at r.old.items r.new.items }
     ensures alpha { IsSplit A bytes.now at a.old.items a.new.items }
+    ensures sound { result ≡ 0 → HasPixels (pixels bytes.now) }
 {
     split_into(
         bytes,
@@ -78,5 +103,5 @@ pub(crate) fn split_planes(
         g.as_mut_slice(),
         r.as_mut_slice(),
         a.as_mut_slice(),
-    );
+    )
 }

@@ -3,7 +3,7 @@
 ghost use Rattle.std.specs.Prelude.{◌≡◌, ◌≤◌, ◌+◌, ◌*◌, ◌-◌, ◌^◌, min, length, Ok, IfOk, IfErr, OnErr, OnOk};
 ghost use Rattle.std.specs.Option.{option_copied};
 ghost use Rattle.image_store.specs.Models.{IsSide};
-ghost use Rattle.image_store.specs.StoreModel.{empty_store, image_at, glyph_at, pixel_count, without_font};
+ghost use Rattle.image_store.specs.StoreModel.{IsStore, empty_store, image_at, glyph_at, pixel_count, without_font};
 ghost use Rattle.image_store.specs.Changes.{image_added, image_updated, image_deleted, glyph_added, where_inside};
 ghost use Rattle.image_store.specs.Outcome.{Changes, ChangesSurely, NamesTexelBelow};
 
@@ -112,7 +112,13 @@ impl Store {
             Ok(image) => image,
             Err(error) => return Err(error),
         };
-        put_image(self.alloc, &mut self.images, u32::from(pipeline), key, image)?;
+        put_image(
+            self.alloc,
+            &mut self.images,
+            u32::from(pipeline),
+            key,
+            image,
+        )?;
         gens.give(generation);
         Ok(())
     }
@@ -238,4 +244,11 @@ fn check_patch(image: &Image, patch: Patch) -> Result<(), StoreError>
         return Err(StoreError::OutOfHeight);
     }
     Ok(())
+}
+
+/// What the type of a store keeps, for whoever holds one: its images and masks are whole. It does nothing.
+pub fn know_store(store: &Store)
+    ensures { IsStore store.now }
+{
+    let _ = &store.alloc;
 }
