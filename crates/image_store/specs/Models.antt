@@ -1,5 +1,5 @@
 -- Images and masks as contracts see them.
-use Rattle.std.specs.Prelude.{◌≡◌, ℕ, ◌+◌, ◌*◌, ◌≤◌, List, length, slice_index}
+use Rattle.std.specs.Prelude.{◌≡◌, ℕ, ◌+◌, ◌*◌, ◌≤◌, ◌<◌, ◌^◌, List, length, slice_index}
 use Rattle.blend_rules.specs.declared.colour.Px.{Px}
 use Rattle.blend_rules.specs.Pixels.{nth_pixel, ArePixels}
 
@@ -54,3 +54,4 @@ pub record IsMask (mask : MaskModel) : Type 0 where
   pub wide : IsSide mask.w
   pub high : IsSide mask.h
   pub whole : length mask.bytes ≡ mask.h * mask.w
+  pub bytes : (i : ℕ) → slice_index mask.bytes i < 2 ^ 8

@@ -1,0 +1,5 @@
+//! Tests of the crate `primitives`.
+#![tactic(auto)]
+
+#[cfg(test)]
+mod tests;

@@ -1,0 +1,6 @@
+mod borders;
+mod entries;
+mod images;
+mod made;
+mod shapes;
+mod text;

@@ -1,0 +1,4 @@
+pub mod Colours
+pub mod Moves
+pub mod Runs
+pub mod Sames
