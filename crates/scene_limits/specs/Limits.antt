@@ -1,5 +1,5 @@
 -- Which scenes are refused.
-use Rattle.std.specs.Prelude.{ℕ, pos, neg_ℤ, ◌^◌, ℤ, List, length, Bool, ◌||◌, ◌&&◌, not, nat_lt, int_le, Option, Some, None, if◌then◌else◌}
+use Rattle.std.specs.Prelude.{pos, neg_ℤ, ◌^◌, ℤ, List, length, Bool, ◌||◌, ◌&&◌, not, nat_lt, int_le, Option, Some, None, if◌then◌else◌}
 use Rattle.std.specs.List.{list_all}
 use Rattle.wr_geom.specs.declared.point.Point.{Point}
 use Rattle.wr_io.specs.declared.fault.Code.{Code}

@@ -1,5 +1,5 @@
 -- The room of a pipeline: the origins that leave each node in reach that is drawn in it. It is a rectangle.
-use Rattle.std.specs.Prelude.{◌≡◌, ℕ, ℤ, ◌+ℤ◌, Bool, true, ◌&&◌, int_le, List, Option, Some, None, slice_index_or}
+use Rattle.std.specs.Prelude.{◌≡◌, ℕ, ℤ, Bool, true, ◌&&◌, int_le, List, Option, Some, None, slice_index_or}
 use Rattle.std.specs.List.{list_all}
 use Rattle.wr_geom.specs.Points.{point_sum}
 use Rattle.wr_geom.specs.declared.point.Point.{Point}

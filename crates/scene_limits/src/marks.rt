@@ -1,6 +1,6 @@
 //! Which pipelines are drawn.
 
-ghost use Rattle.std.specs.Prelude.{◌≡◌, ◌↔◌, ◌||◌, ◌&&◌, ℕ, true, false, IsTrue, replicate, slice_set};
+ghost use Rattle.std.specs.Prelude.{◌≡◌, ◌↔◌, ◌||◌, ◌&&◌, ◌<◌, ℕ, true, false, IsTrue, replicate, slice_set};
 ghost use Rattle.pipelines.specs.Table.{list_of};
 ghost use Rattle.scene_limits.specs.Drawn.{AreDrawn, AreReached, IsDrawn, frames_of, has_list, have_frame_of, is_drawn, is_marked, is_some_list};
 
@@ -61,16 +61,25 @@ fn is_listed(pipelines: &Pipelines, p: u8) -> bool
     pipelines.get(p).listed().is_some()
 }
 
-/// Which pipelines are drawn, by number: pipeline 0 where it has a list, and those that have a list and that
-/// an Iframe of one that is drawn names.
-pub fn drawn(pipelines: &Pipelines) -> [bool; 64]
-    ensures { (q : ℕ) → IsTrue (is_drawn result q) ↔ IsDrawn pipelines.now q }
+/// What is marked and has a list.
+fn only_listed(pipelines: &Pipelines, marks: [bool; 64]) -> [bool; 64]
+    ensures { (q : ℕ) → q < 64 → is_drawn result q ≡ (is_marked marks q && has_list pipelines.now q) }
 {
-    let mut drawn = reached(pipelines);
+    let mut drawn = marks;
     for p in 0..64u8 {
         if !is_listed(pipelines, p) {
             drawn[usize::from(p)] = false;
         }
     }
     drawn
+}
+
+/// Which pipelines are drawn, by number: pipeline 0 where it has a list, and those that have a list and that
+/// an Iframe of one that is drawn names.
+pub fn drawn(pipelines: &Pipelines) -> [bool; 64]
+    ensures { (q : ℕ) → IsTrue (is_drawn result q) ↔ IsDrawn pipelines.now q }
+{
+    let _root = pipelines.get(0);
+    let marks = reached(pipelines);
+    only_listed(pipelines, marks)
 }

@@ -142,7 +142,8 @@ pub(crate) fn is_scene_far(
         let p = 63 - step;
         let pipeline = pipelines.get(p);
         if reached[usize::from(p)] {
-            rooms[usize::from(p)] = pipeline_room(alloc, pipeline, &rooms)?;
+            let room = pipeline_room(alloc, pipeline, &rooms)?;
+            rooms[usize::from(p)] = room;
         }
     }
     match rooms[0] {

@@ -5,7 +5,9 @@ use Rattle.scene_limits.proofs.Spans.{four}
 use Rattle.scene_limits.proofs.room.Room.narrowed.Goals as goal
 
 pub returns : goal.returns
-returns c = λ u v.
+returns c = λ origin.
+    let u = origin.x in
+    let v = origin.y in
     let x : ℤ = to_z w64 (of_z w64 c.args.x) in
     let y : ℤ = to_z w64 (of_z w64 c.args.y) in
     let xs : x ≡ c.args.x = omega (arith, ints) in
