@@ -3,6 +3,7 @@ use Rattle.std.specs.Prelude.{ℕ, ◌^◌, nat_lt, if◌then◌else◌, Option,
 use Rattle.wr_io.specs.declared.fault.Code.{Code}
 use Rattle.wr_io.specs.declared.fault.Code.TheVariants as code
 use Rattle.image_store.specs.StoreModel.{StoreModel, pixel_count}
+use Rattle.scene_limits.specs.Limits.{scene_fault}
 use Rattle.txn_format.specs.Txn.{TxnModel}
 use Rattle.scene_state.specs.SceneModel.{SceneModel}
 use Rattle.scene_state.specs.Operations.{Next, after_ops, then_next}
@@ -11,9 +12,14 @@ use Rattle.scene_state.specs.Operations.{Next, after_ops, then_next}
 unfoldable pub is_full : StoreModel → Bool
 is_full store = nat_lt (2 ^ 26) (pixel_count store)
 
--- the limit that a scene breaks, if it breaks one
+-- the first of two limits that are broken
+abbrev pub first_limit : Option Code → Bool → Option Code
+first_limit (Some code) full = Some code
+first_limit None full = if full then Some code.TooManyPixels else None
+
+-- the first limit that a scene breaks, if it breaks one: what it would have expanded, and then what is stored
 abbrev pub limit_of : SceneModel → Option Code
-limit_of s = if is_full s.store then Some code.TooManyPixels else None
+limit_of s = first_limit (scene_fault s.pipelines) (is_full s.store)
 
 -- a scene that breaks no limit, or the fault, at a position
 abbrev pub where_none : Option Code → ℕ → SceneModel → ℕ → Next

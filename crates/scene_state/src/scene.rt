@@ -1,6 +1,7 @@
 //! A scene, and the next one.
 
-ghost use Rattle.std.specs.Prelude.{◌≡◌, ◌≤◌, Option, OnErr, IfOk};
+ghost use Rattle.std.specs.Prelude.{◌≡◌, ◌↔◌, ◌≤◌, ℕ, IsTrue, OnErr, IfOk};
+ghost use Rattle.scene_limits.specs.Drawn.{IsDrawn, is_drawn};
 ghost use Rattle.std.specs.Option.{option_copied, option_map};
 ghost use Rattle.wr_io.specs.declared.fault.Code.TheVariants as code;
 ghost use Rattle.blend_rules.specs.Colour.{IsPixel};
@@ -17,10 +18,12 @@ use blend_rules::Px;
 use display_list::List;
 use image_store::{Gens, Store};
 use pipelines::Pipelines;
+use scene_limits::{drawn, scene_fault};
 use spatial_tree::Moves;
 use std::alloc::Global;
 use std::marker::Model;
 use txn_format::Txn;
+use wr_geom::NoMemory;
 use wr_io::{Code, Fault};
 
 /// What the transactions so far have made. It breaks no limit.
@@ -50,14 +53,17 @@ fn is_full(store: &Store) -> bool
     store.pixels() > MAX_STORED_PIXELS
 }
 
-/// The limit that a scene breaks, if it breaks one.
-fn broken_limit(draft: &Draft) -> Option<Code>
-    ensures { result ≡ limit_of draft.now }
+/// The first limit that a scene breaks, if it breaks one.
+fn broken_limit(draft: &Draft) -> Result<Option<Code>, NoMemory>
+    ensures { IfOk result (λ code. code ≡ limit_of draft.now) }
 {
-    if is_full(draft.store.get()) {
-        return Some(Code::TooManyPixels);
+    if let Some(code) = scene_fault(draft.alloc, &draft.pipelines)? {
+        return Ok(Some(code));
     }
-    None
+    if is_full(draft.store.get()) {
+        return Ok(Some(Code::TooManyPixels));
+    }
+    Ok(None)
 }
 
 impl Scene {
@@ -82,7 +88,7 @@ impl Scene {
     {
         let mut counter = Gens::at(gens.last());
         let draft = self.applied(txn, &mut counter)?;
-        if let Some(code) = broken_limit(&draft) {
+        if let Some(code) = broken_limit(&draft)? {
             return Err(ApplyError::Fault(Fault {
                 code,
                 at: txn.len(),
@@ -162,6 +168,22 @@ impl Scene {
         ensures { result.now ≡ (pipeline_at self.now.pipelines pipeline).moves }
     {
         self.draft.pipelines.get(pipeline).moves()
+    }
+
+    /// Which pipelines are drawn, by number: pipeline 0 where it has a list, and those that have a list and
+    /// that an Iframe of one that is drawn names.
+    pub fn drawn(&self) -> [bool; 64]
+        ensures { (p : ℕ) → IsTrue (is_drawn result p) ↔ IsDrawn self.now.pipelines p }
+    {
+        drawn(&self.draft.pipelines)
+    }
+
+    /// Whether a pipeline is drawn.
+    pub fn is_drawn(&self, pipeline: u8) -> bool
+        requires { pipeline ≤ 63 }
+        ensures { IsTrue result ↔ IsDrawn self.now.pipelines pipeline }
+    {
+        self.drawn()[usize::from(pipeline)]
     }
 
     /// The images and masks.

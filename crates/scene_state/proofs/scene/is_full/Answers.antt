@@ -1,4 +1,4 @@
-use Rattle.scene_state.proofs.Fullness.{full_by_least}
+use Rattle.scene_state.proofs.BrokenLimits.{full_by_least}
 use Rattle.scene_state.proofs.scene.is_full.Goals as goal
 
 pub returns : goal.returns
