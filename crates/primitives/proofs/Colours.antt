@@ -21,7 +21,7 @@ use Rattle.primitives.specs.declared.kind.Kind.{Kind}
 use Rattle.primitives.specs.declared.kind.Kind.TheVariants as kind
 use Rattle.primitives.specs.PrimitiveModel.{PrimitiveModel, IsKind}
 use Rattle.primitives.specs.Borders.{border_coverage, colour_of_side, side_colour, is_horizontal, vertical_edge, horizontal_edge, pixels_before}
-use Rattle.primitives.specs.Colours.{used, repeated_texel, mask_rect, mask_coverage, glyph_coverage, with_glyph, kind_colour, primitive_colour, covered_colour}
+use Rattle.primitives.specs.Colours.{resource_of_use, repeated_texel, mask_rect, mask_coverage, glyph_coverage, with_glyph, kind_colour, primitive_colour, covered_colour}
 use Rattle.primitives.specs.Stacks.{Stack}
 use Rattle.primitives.specs.Facts.{IsOpaque, IsOpaqueImage}
 use Rattle.primitives.specs.Laws.{ColourIsPixel, CoveredIsPixel, ClearWhereNotVisible, OpaqueIsFull, OpaqueReplaces}
@@ -47,13 +47,13 @@ texel_pixel None h column row = clear_is_pixel
 texel_pixel (Some image) h column row = let is = h image refl in is.pixels (row % image.h * image.w + column % image.w) (repeated_within image column row is)
 
 -- what is drawn of what is stored was stored
-used_stored : {A : Type 0} (g : Option ℕ) (o : Option A) (a : A) → used g o ≡ Some a → o ≡ Some a
+used_stored : {A : Type 0} (g : Option ℕ) (o : Option A) (a : A) → resource_of_use g o ≡ Some a → o ≡ Some a
 used_stored None o a e = absurd cc
 used_stored (Some g) o a e = e
 
-image_pixel : (store : StoreModel) → IsStore store → (pipeline key : ℕ) (g : Option ℕ) (column row : ℕ) → IsPixel (repeated_texel (used g (image_at store pipeline key)) column row)
+image_pixel : (store : StoreModel) → IsStore store → (pipeline key : ℕ) (g : Option ℕ) (column row : ℕ) → IsPixel (repeated_texel (resource_of_use g (image_at store pipeline key)) column row)
 image_pixel store h pipeline key g column row =
-    texel_pixel (used g (image_at store pipeline key)) (λ image e. h.images pipeline key image (used_stored g (image_at store pipeline key) image e)) column row
+    texel_pixel (resource_of_use g (image_at store pipeline key)) (λ image e. h.images pipeline key image (used_stored g (image_at store pipeline key) image e)) column row
 
 -- ---- borders
 
@@ -88,7 +88,7 @@ mask_is_byte (Some mask) h x y = by_test (holds (mask_rect mask) x y)
 
 glyph_byte : (store : StoreModel) → IsStore store → (pipeline font : ℕ) (g : GlyphUse) (x y : ℤ) → glyph_coverage store pipeline font g x y < 2 ^ 8
 glyph_byte store h pipeline font g x y =
-    mask_is_byte (used g.generation (glyph_at store pipeline font g.glyph)) (λ mask e. h.masks pipeline font g.glyph mask (used_stored g.generation (glyph_at store pipeline font g.glyph) mask e)) (x -ℤ g.x) (y -ℤ g.y)
+    mask_is_byte (resource_of_use g.generation (glyph_at store pipeline font g.glyph)) (λ mask e. h.masks pipeline font g.glyph mask (used_stored g.generation (glyph_at store pipeline font g.glyph) mask e)) (x -ℤ g.x) (y -ℤ g.y)
 
 pub glyph_pixel : (store : StoreModel) → IsStore store → (pipeline font : ℕ) (colour : Px) (x y : ℤ) (g : GlyphUse) (so_far : Px) → IsPixel colour → IsPixel so_far → IsPixel (with_glyph store pipeline font colour x y so_far g)
 glyph_pixel store h pipeline font colour x y g so_far c s =
@@ -156,7 +156,7 @@ full_texel (Some image) h opaque column row = opaque (row % image.h * image.w + 
 full_kind : (store : StoreModel) → IsStore store → (b : Bounds) (k : Kind) (x y : ℤ) → IsOpaque store k → (kind_colour store b k x y).a ≡ 255
 full_kind store h b (kind.Solid colour) x y is = is
 full_kind store h b (kind.Image pipeline key g u v) x y is =
-    full_texel (used g (image_at store pipeline key)) (λ image e. h.images pipeline key image (used_stored g (image_at store pipeline key) image e)) is (pixels_before b.x0 x + u) (pixels_before b.y0 y + v)
+    full_texel (resource_of_use g (image_at store pipeline key)) (λ image e. h.images pipeline key image (used_stored g (image_at store pipeline key) image e)) is (pixels_before b.x0 x + u) (pixels_before b.y0 y + v)
 full_kind store h b (kind.Border w top right bottom l radii) x y is = absurd is
 full_kind store h b (kind.Text pipeline font colour glyphs) x y is = absurd is
 

@@ -28,7 +28,7 @@ use Rattle.primitives.specs.declared.kind.Kind.TheVariants as kind
 use Rattle.primitives.specs.declared.entry.Entry.TheVariants as entry
 use Rattle.primitives.specs.PrimitiveModel.{IsGlyphUse, IsKind}
 use Rattle.primitives.specs.Borders.{edge_of, pixels_before, pixels_after, vertical_edge, horizontal_edge, colour_of_side, side_colour, border_coverage}
-use Rattle.primitives.specs.Colours.{used, repeated_texel, mask_coverage, glyph_coverage, with_glyph, kind_colour, primitive_colour, covered_colour}
+use Rattle.primitives.specs.Colours.{resource_of_use, repeated_texel, mask_coverage, glyph_coverage, with_glyph, kind_colour, primitive_colour, covered_colour}
 use Rattle.primitives.specs.Moves.{CanShiftKind, shifted_glyph, shifted_glyphs, shifted_kind, shifted_entries}
 use Rattle.primitives.specs.Stacks.{Stack, step, run}
 use Rattle.primitives.specs.Laws.{ShiftedHasColours, ShiftedHasCoveredColours, ShiftedSteps, ShiftedRuns, ShiftedIsVisible}
@@ -76,7 +76,7 @@ coverage_moved o by w x y =
 
 glyph_moved : (store : StoreModel) (pipeline font : ℕ) (g : GlyphUse) (by : Point) (x y : ℤ) → glyph_coverage store pipeline font (shifted_glyph g by) (x +ℤ by.x) (y +ℤ by.y) ≡ glyph_coverage store pipeline font g x y
 glyph_moved store pipeline font g by x y =
-    ap₂ (mask_coverage (used g.generation (glyph_at store pipeline font g.glyph))) (distance_moved x g.x by.x) (distance_moved y g.y by.y)
+    ap₂ (mask_coverage (resource_of_use g.generation (glyph_at store pipeline font g.glyph))) (distance_moved x g.x by.x) (distance_moved y g.y by.y)
 
 text_moved : (store : StoreModel) (pipeline font : ℕ) (colour : Px) (by : Point) (x y : ℤ) (glyphs : List GlyphUse) (so_far : Px)
     → fold (with_glyph store pipeline font colour (x +ℤ by.x) (y +ℤ by.y)) so_far (shifted_glyphs glyphs by) ≡ fold (with_glyph store pipeline font colour x y) so_far glyphs
@@ -90,7 +90,7 @@ text_moved store pipeline font colour by x y (g ∷ gs) so_far =
 kind_moved : (store : StoreModel) (b : Bounds) (k : Kind) (by : Point) (x y : ℤ) → kind_colour store (shifted b by) (shifted_kind k by) (x +ℤ by.x) (y +ℤ by.y) ≡ kind_colour store b k x y
 kind_moved store b (kind.Solid colour) by x y = refl
 kind_moved store b (kind.Image pipeline key g u v) by x y =
-    ap₂ (λ (m n : ℕ). repeated_texel (used g (image_at store pipeline key)) (m + u) (n + v)) (before_moved b.x0 x by.x) (before_moved b.y0 y by.y)
+    ap₂ (λ (m n : ℕ). repeated_texel (resource_of_use g (image_at store pipeline key)) (m + u) (n + v)) (before_moved b.x0 x by.x) (before_moved b.y0 y by.y)
 kind_moved store b (kind.Border w top right bottom l radii) by x y =
     ap₂ scaled (side_moved b by w (record { top = top; right = right; bottom = bottom; left = l }) x y) (coverage_moved (record { rect = b; radii = radii }) by w x y)
 kind_moved store b (kind.Text pipeline font colour glyphs) by x y = text_moved store pipeline font colour by x y glyphs clear

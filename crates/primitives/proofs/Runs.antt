@@ -13,7 +13,7 @@ use Rattle.image_store.specs.StoreModel.{StoreModel, IsStore}
 use Rattle.primitives.specs.declared.entry.Entry.{Entry}
 use Rattle.primitives.specs.declared.entry.Entry.TheVariants as entry
 use Rattle.primitives.specs.Colours.{primitive_colour, covered_colour}
-use Rattle.primitives.specs.Stacks.{Group, Stack, closed_over, popped, step, run, balanced, IsRow}
+use Rattle.primitives.specs.Stacks.{Group, Stack, group_over_backdrop, after_pop, step, run, balanced, IsRow}
 use Rattle.primitives.specs.Stacks as row
 use Rattle.primitives.specs.Facts.{IsEntry, IsHidden, IsGroup, IsStack}
 use Rattle.primitives.specs.Laws.{FullClipsDoNothing, RunsInParts, BalancedLeavesGroups, BalancedKnowsTopAlone, RowsAreBalanced, RunKeepsPixels, HiddenLeavesStack, HiddenListLeavesStack}
@@ -63,7 +63,7 @@ groups_left store x y (entry.Push o m clips ∷ es) n front below top h b =
     groups_left store x y es (suc n) (record { backdrop = top; opacity = o; mode = m; cover = chain_coverage clips 255 x y } ∷ front) below clear h b
 groups_left store x y (entry.Pop ∷ es) zero front below top h b = absurd (true≢false (sym b))
 groups_left store x y (entry.Pop ∷ es) (suc n) [] below top h b = absurd h
-groups_left store x y (entry.Pop ∷ es) (suc n) (g ∷ gs) below top h b = groups_left store x y es n gs below (closed_over g top) h b
+groups_left store x y (entry.Pop ∷ es) (suc n) (g ∷ gs) below top h b = groups_left store x y es n gs below (group_over_backdrop g top) h b
 
 pub balanced_leaves_groups : BalancedLeavesGroups
 balanced_leaves_groups store x y es s b = groups_left store x y es 0 [] s.groups s.top tt b
@@ -79,7 +79,7 @@ tops_same store x y (entry.Push o m clips ∷ es) n front below other top h b =
     tops_same store x y es (suc n) (record { backdrop = top; opacity = o; mode = m; cover = chain_coverage clips 255 x y } ∷ front) below other clear h b
 tops_same store x y (entry.Pop ∷ es) zero front below other top h b = absurd (true≢false (sym b))
 tops_same store x y (entry.Pop ∷ es) (suc n) [] below other top h b = absurd h
-tops_same store x y (entry.Pop ∷ es) (suc n) (g ∷ gs) below other top h b = tops_same store x y es n gs below other (closed_over g top) h b
+tops_same store x y (entry.Pop ∷ es) (suc n) (g ∷ gs) below other top h b = tops_same store x y es n gs below other (group_over_backdrop g top) h b
 
 pub balanced_knows_top_alone : BalancedKnowsTopAlone
 balanced_knows_top_alone store x y es s t b e =
@@ -97,13 +97,13 @@ rows_are_balanced es h = ap (balanced 0) (sym (append-nil es)) ∙ row_balanced 
 
 -- ---- pixels
 
-closed_pixel : (g : Group) (top : Px) → IsGroup g → IsPixel top → IsPixel (closed_over g top)
-unfolding closed_over
+closed_pixel : (g : Group) (top : Px) → IsGroup g → IsPixel top → IsPixel (group_over_backdrop g top)
+unfolding group_over_backdrop
 closed_pixel g top h k =
     let thin = scaled_is_pixel (scaled top g.opacity) g.cover h.cover (scaled_is_pixel top g.opacity h.opacity k) in
     blend_is_pixel g.mode (scaled (scaled top g.opacity) g.cover) g.backdrop thin.byte h.backdrop.byte
 
-popped_stack : (top : Px) (groups : List Group) → IsPixel top → All IsGroup groups → IsStack (popped top groups)
+popped_stack : (top : Px) (groups : List Group) → IsPixel top → All IsGroup groups → IsStack (after_pop top groups)
 popped_stack top [] h k = record { top = h; groups = k }
 popped_stack top (g ∷ gs) h k = record { top = closed_pixel g top (All-head IsGroup g gs k) h; groups = All-tail IsGroup g gs k }
 
@@ -143,8 +143,8 @@ opened_top [] s h = h
 opened_top (o ∷ os) s h = clear_is_pixel
 
 -- a group in which nothing stands leaves what is below it
-closed_clear : (g : Group) → IsPixel g.backdrop → closed_over g clear ≡ g.backdrop
-unfolding closed_over
+closed_clear : (g : Group) → IsPixel g.backdrop → group_over_backdrop g clear ≡ g.backdrop
+unfolding group_over_backdrop
 closed_clear g h =
     ap (λ (c : Px). blended g.mode c g.backdrop) (ap (λ (c : Px). scaled c g.cover) (scaled_clear g.opacity) ∙ scaled_clear g.cover)
     ∙ clear_source_leaves g.mode g.backdrop h.premultiplied h.byte

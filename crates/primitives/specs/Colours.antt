@@ -15,9 +15,9 @@ use Rattle.primitives.specs.PrimitiveModel.{PrimitiveModel}
 use Rattle.primitives.specs.Borders.{border_colour, pixels_before}
 
 -- what a use draws of what is stored now: nothing where it carries no generation
-abbrev pub used : {A : Type 0} → Option ℕ → Option A → Option A
-used None stored = None
-used (Some generation) stored = stored
+abbrev pub resource_of_use : {A : Type 0} → Option ℕ → Option A → Option A
+resource_of_use None stored = None
+resource_of_use (Some generation) stored = stored
 
 -- ---- images
 
@@ -43,7 +43,7 @@ mask_coverage (Some m) x y = if holds (mask_rect m) x y then mask_byte m (unsign
 
 -- what a glyph's mask covers of the pixel (x, y), of 255
 abbrev pub glyph_coverage : StoreModel → ℕ → ℕ → GlyphUse → ℤ → ℤ → ℕ
-glyph_coverage store pipeline font g x y = mask_coverage (used g.generation (glyph_at store pipeline font g.glyph)) (x -ℤ g.x) (y -ℤ g.y)
+glyph_coverage store pipeline font g x y = mask_coverage (resource_of_use g.generation (glyph_at store pipeline font g.glyph)) (x -ℤ g.x) (y -ℤ g.y)
 
 -- one glyph more over what is so far: the text's colour under the glyph's mask
 abbrev pub with_glyph : StoreModel → ℕ → ℕ → Px → ℤ → ℤ → Px → GlyphUse → Px
@@ -58,7 +58,7 @@ text_colour store pipeline font colour glyphs x y = fold (with_glyph store pipel
 -- what is shown at the pixel (x, y) of the rectangle
 abbrev pub kind_colour : StoreModel → Bounds → Kind → ℤ → ℤ → Px
 kind_colour store b (kind.Solid colour) x y = colour
-kind_colour store b (kind.Image pipeline key generation u v) x y = image_colour (used generation (image_at store pipeline key)) b u v x y
+kind_colour store b (kind.Image pipeline key generation u v) x y = image_colour (resource_of_use generation (image_at store pipeline key)) b u v x y
 kind_colour store b (kind.Border widths top right bottom l radii) x y = border_colour b widths (record { top = top; right = right; bottom = bottom; left = l }) radii x y
 kind_colour store b (kind.Text pipeline font colour glyphs) x y = text_colour store pipeline font colour glyphs x y
 

@@ -8,7 +8,7 @@ use Rattle.image_store.specs.StoreModel.{StoreModel, image_at}
 use Rattle.primitives.specs.declared.kind.Kind.{Kind}
 use Rattle.primitives.specs.declared.kind.Kind.TheVariants as kind
 use Rattle.primitives.specs.PrimitiveModel.{IsPrimitive}
-use Rattle.primitives.specs.Colours.{used, visible_rect}
+use Rattle.primitives.specs.Colours.{resource_of_use, visible_rect}
 use Rattle.primitives.specs.Stacks.{Group, Stack}
 use Rattle.primitives.specs.declared.entry.Entry.{Entry}
 use Rattle.primitives.specs.declared.entry.Entry.TheVariants as entry
@@ -23,7 +23,7 @@ IsOpaqueImage (Some image) = AreOpaque image.texels
 -- a colour of alpha 255, or an image that is drawn and opaque
 abbrev pub IsOpaque : StoreModel → Kind → Type 0
 IsOpaque store (kind.Solid colour) = colour.a ≡ 255
-IsOpaque store (kind.Image pipeline key generation u v) = IsOpaqueImage (used generation (image_at store pipeline key))
+IsOpaque store (kind.Image pipeline key generation u v) = IsOpaqueImage (resource_of_use generation (image_at store pipeline key))
 IsOpaque store (kind.Border widths top right bottom l radii) = ⊥
 IsOpaque store (kind.Text pipeline font colour glyphs) = ⊥
 

@@ -29,19 +29,19 @@ abbrev pub empty_stack : Stack
 empty_stack = record { top = clear; groups = [] }
 
 -- a group's colour, blended over the one below
-unfoldable pub closed_over : Group → Px → Px
-closed_over g colour = blended g.mode (scaled (scaled colour g.opacity) g.cover) g.backdrop
+unfoldable pub group_over_backdrop : Group → Px → Px
+group_over_backdrop g colour = blended g.mode (scaled (scaled colour g.opacity) g.cover) g.backdrop
 
 -- the innermost group ends; where none is open, nothing changes
-abbrev pub popped : Px → List Group → Stack
-popped colour [] = record { top = colour; groups = [] }
-popped colour (g ∷ gs) = record { top = closed_over g colour; groups = gs }
+abbrev pub after_pop : Px → List Group → Stack
+after_pop colour [] = record { top = colour; groups = [] }
+after_pop colour (g ∷ gs) = record { top = group_over_backdrop g colour; groups = gs }
 
 -- one entry at the point (x, y)
 abbrev pub step : StoreModel → ℤ → ℤ → Entry → Stack → Stack
 step store x y (entry.Primitive p) s = record { top = blended Normal (covered_colour store p x y) s.top; groups = s.groups }
 step store x y (entry.Push opacity mode clips) s = record { top = clear; groups = record { backdrop = s.top; opacity = opacity; mode = mode; cover = chain_coverage clips 255 x y } ∷ s.groups }
-step store x y entry.Pop s = popped s.top s.groups
+step store x y entry.Pop s = after_pop s.top s.groups
 
 -- entries in order, at the point (x, y)
 abbrev pub run : StoreModel → ℤ → ℤ → List Entry → Stack → Stack

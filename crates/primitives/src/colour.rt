@@ -1,6 +1,7 @@
 //! The colour of a primitive at one point, and what hides all that is below it.
 
 ghost use Rattle.std.specs.Prelude.{◌≡◌, ◌↔◌, IsTrue};
+ghost use Rattle.blend_rules.specs.Colour.{IsPixel};
 ghost use Rattle.clip_masks.specs.Corners.{HasPixel};
 ghost use Rattle.primitives.specs.PrimitiveModel.{IsKind};
 ghost use Rattle.primitives.specs.Colours.{kind_colour, primitive_colour, visible_rect};
@@ -11,7 +12,7 @@ use crate::image::{colour_of_image, is_opaque_image, used_image};
 use crate::text::text_colour;
 use crate::{Kind, Primitive};
 use blend_rules::Px;
-use image_store::Store;
+use image_store::{Store, know_store};
 use wr_geom::{Point, Rect};
 
 /// What is shown at a pixel of the rectangle.
@@ -60,6 +61,16 @@ fn kind_colour(kind: &Kind, rect: Rect, store: &Store, x: i32, y: i32) -> Px
 /// A primitive's colour at the pixel (x, y), with what is stored now: clear outside of its rectangle.
 /// It takes no memory.
 pub fn colour_at(prim: &Primitive, store: &Store, x: i32, y: i32) -> Px
+    ensures value { result ≡ primitive_colour store.now prim.now x y }
+    ensures pixel { IsPixel result }
+{
+    know_store(store);
+    let _rect = prim.rect();
+    primitive_colour(prim, store, x, y)
+}
+
+/// The same, without what is known of it.
+fn primitive_colour(prim: &Primitive, store: &Store, x: i32, y: i32) -> Px
     ensures { result ≡ primitive_colour store.now prim.now x y }
 {
     let rect = prim.rect();

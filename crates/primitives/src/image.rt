@@ -4,7 +4,7 @@ ghost use Rattle.std.specs.Prelude.{◌≡◌, ◌^◌, ◌<◌, ◌↔◌, IsTr
 ghost use Rattle.std.specs.Option.{option_copied};
 ghost use Rattle.clip_masks.specs.Corners.{HasPixel};
 ghost use Rattle.image_store.specs.StoreModel.{image_at};
-ghost use Rattle.primitives.specs.Colours.{used, repeated_texel, image_colour};
+ghost use Rattle.primitives.specs.Colours.{resource_of_use, repeated_texel, image_colour};
 ghost use Rattle.primitives.specs.Facts.{IsOpaqueImage};
 
 use crate::border::pixels_before;
@@ -19,7 +19,7 @@ pub(crate) fn used_image(
     key: u32,
     generation: Option<u64>,
 ) -> Option<&Image>
-    ensures { option_copied result ≡ used generation (image_at store.now pipeline key) }
+    ensures { option_copied result ≡ resource_of_use generation (image_at store.now pipeline key) }
 {
     match generation {
         None => None,

@@ -4,7 +4,7 @@ ghost use Rattle.std.specs.Prelude.{◌≡◌, ◌-ℤ◌, Some};
 ghost use Rattle.std.specs.Option.{option_copied};
 ghost use Rattle.blend_rules.specs.Colour.{IsPremultiplied};
 ghost use Rattle.image_store.specs.StoreModel.{glyph_at};
-ghost use Rattle.primitives.specs.Colours.{used, mask_coverage, glyph_coverage, with_glyph, text_colour};
+ghost use Rattle.primitives.specs.Colours.{resource_of_use, mask_coverage, glyph_coverage, with_glyph, text_colour};
 
 use crate::GlyphUse;
 use blend_rules::{Mode, Px, blend, scale};
@@ -12,7 +12,7 @@ use image_store::{Mask, Store};
 
 /// What a use of a mask draws: what is stored now, and nothing where it carries no generation.
 fn used_mask(store: &Store, pipeline: u8, font: u16, g: GlyphUse) -> Option<&Mask>
-    ensures { option_copied result ≡ used g.generation (glyph_at store.now pipeline font g.glyph) }
+    ensures { option_copied result ≡ resource_of_use g.generation (glyph_at store.now pipeline font g.glyph) }
 {
     match g.generation {
         None => None,

@@ -1,9 +1,9 @@
 //! Sides and corners of borders.
 
-use super::made::{BLUE, RED, WHITE, grey, plain, rect};
+use super::made::{BLUE, RED, four, grey, plain, rect};
 use blend_rules::Px;
 use image_store::Store;
-use primitives::{Kind, Primitive, colour_at, is_opaque};
+use primitives::{Kind, Primitive, is_opaque};
 use std::alloc::Global;
 use std::test::Fail;
 use wr_geom::{Radii, Widths};
@@ -20,7 +20,7 @@ fn sides(widths: Widths, radii: Radii) -> Kind {
     Kind::Border {
         widths,
         top: RED,
-        right: WHITE,
+        right: grey(255),
         bottom: BLUE,
         left: grey(9),
         radii,
@@ -28,62 +28,67 @@ fn sides(widths: Widths, radii: Radii) -> Kind {
 }
 
 /// Such a border in the rectangle from (0, 0) to (4, 4).
-fn border(alloc: Global, widths: Widths, radii: Radii) -> Result<Primitive, Fail> {
-    plain(alloc, sides(widths, radii), rect(0, 0, 4, 4)?)
-}
-
-/// The four pixels of a row.
-fn row(p: &Primitive, store: &Store, y: i32) -> [Px; 4] {
-    [
-        colour_at(p, store, 0, y),
-        colour_at(p, store, 1, y),
-        colour_at(p, store, 2, y),
-        colour_at(p, store, 3, y),
-    ]
+fn border(alloc: Global, radii: Radii) -> Result<Primitive, Fail> {
+    plain(alloc, sides(WIDTHS, radii), rect(0, 0, 4, 4)?)
 }
 
 #[test]
-fn each_pixel_has_its_side(rt: HostRuntime) -> Result<(), Fail> {
+fn upper_pixels_have_their_side(rt: HostRuntime) -> Result<(), Fail> {
+    let p = border(rt.alloc(), Radii::SQUARE)?;
     let store = Store::new(rt.alloc());
-    let p = border(rt.alloc(), WIDTHS, Radii::SQUARE)?;
-    assert_eq!(rt; row(&p, &store, 0), [RED, RED, RED, RED]);
-    assert_eq!(rt; row(&p, &store, 1), [grey(9), RED, RED, WHITE]);
-    assert_eq!(rt; row(&p, &store, 2), [grey(9), Px::CLEAR, Px::CLEAR, WHITE]);
-    assert_eq!(rt; row(&p, &store, 3), [BLUE, BLUE, BLUE, BLUE]);
-    assert!(rt; !is_opaque(&p, &store));
+    assert_eq!(rt; four(&p, &store, 0, 0), [RED; 4]);
+    assert_eq!(rt; four(&p, &store, 0, 1), [grey(9), RED, RED, grey(255)]);
+    Ok(())
+}
+
+#[test]
+fn lower_pixels_have_their_side(rt: HostRuntime) -> Result<(), Fail> {
+    let p = border(rt.alloc(), Radii::SQUARE)?;
+    let store = Store::new(rt.alloc());
+    assert_eq!(rt;
+        four(&p, &store, 0, 2),
+        [grey(9), Px::CLEAR, Px::CLEAR, grey(255)]
+    );
+    assert_eq!(rt; four(&p, &store, 0, 3), [BLUE; 4]);
     Ok(())
 }
 
 #[test]
 fn a_round_corner_covers_a_part(rt: HostRuntime) -> Result<(), Fail> {
-    let store = Store::new(rt.alloc());
     let radii = Radii {
         tl: (2, 2),
         ..Radii::SQUARE
     };
-    let p = border(rt.alloc(), WIDTHS, radii)?;
-    // 6 of 16 samples lie in the outer shape, and none in the inner one.
-    assert_eq!(rt;
-        colour_at(&p, &store, 0, 0),
+    let p = border(rt.alloc(), radii)?;
+    let store = Store::new(rt.alloc());
+    // 6 and 15 of 16 samples lie in the outer shape, and none in the inner one.
+    let (first, second) = (
         Px {
             r: 96,
             a: 96,
             ..Px::CLEAR
-        }
+        },
+        Px {
+            r: 239,
+            a: 239,
+            ..Px::CLEAR
+        },
     );
+    assert_eq!(rt; four(&p, &store, 0, 0), [first, second, RED, RED]);
+    assert!(rt; !is_opaque(&p, &store));
     Ok(())
 }
 
 #[test]
-fn widths_must_fit(rt: HostRuntime) -> Result<(), Fail> {
-    let wide = Widths { left: 4, ..WIDTHS };
-    assert!(rt; !sides(wide, Radii::SQUARE).fits(rect(0, 0, 4, 4)?));
-    assert!(rt; sides(wide, Radii::SQUARE).fits(rect(0, 0, 5, 4)?));
+fn widths_and_radii_must_fit(rt: HostRuntime) -> Result<(), Fail> {
+    let place = rect(0, 0, 4, 4)?;
+    let wide = sides(Widths { left: 4, ..WIDTHS }, Radii::SQUARE);
     let radii = Radii {
         tl: (3, 1),
         tr: (2, 1),
         ..Radii::SQUARE
     };
-    assert!(rt; !sides(WIDTHS, radii).fits(rect(0, 0, 4, 4)?));
+    let round = sides(WIDTHS, radii);
+    assert!(rt; !wide.fits(place) && !round.fits(place));
     Ok(())
 }

@@ -1,32 +1,29 @@
 //! Solid primitives: colours, opacity, and the visible rectangle.
 
-use super::made::{BLUE, RED, grey, plain, rect, solid, stored_image};
+use super::made::{BLUE, RED, four, grey, plain, rect};
 use blend_rules::Px;
 use clip_masks::Clip;
 use containers::Sequence;
 use image_store::Store;
-use primitives::{Kind, Primitive, colour_at, colour_laws, is_opaque, visible};
-use std::alloc::Global;
+use primitives::{Kind, Primitive, colour_laws, is_opaque, visible};
 use std::test::Fail;
 
 #[test]
 fn a_solid_ends_at_its_rectangle(rt: HostRuntime) -> Result<(), Fail> {
+    let place = rect(-2, 3, 0, 5)?;
+    let p = plain(rt.alloc(), Kind::Solid(RED), place)?;
     let store = Store::new(rt.alloc());
-    let p = solid(rt.alloc(), RED, rect(-2, 3, 1, 5)?)?;
-    assert_eq!(rt; colour_at(&p, &store, -2, 3), RED);
-    assert_eq!(rt; colour_at(&p, &store, 0, 4), RED);
-    assert_eq!(rt; colour_at(&p, &store, 1, 4), Px::CLEAR);
-    assert_eq!(rt; colour_at(&p, &store, 0, 2), Px::CLEAR);
-    assert_eq!(rt; p.rect(), rect(-2, 3, 1, 5)?);
-    assert_eq!(rt; p.clips().len(), 0);
+    let row = four(&p, &store, -3, 4);
+    assert_eq!(rt; row, [Px::CLEAR, RED, RED, Px::CLEAR]);
     Ok(())
 }
 
 #[test]
 fn colours_must_be_premultiplied(rt: HostRuntime) -> Result<(), Fail> {
-    let bright = Px { a: 254, ..RED };
-    let clips = Sequence::new(rt.alloc());
-    let made = Primitive::new(Kind::Solid(bright), rect(0, 0, 1, 1)?, clips);
+    let place = rect(0, 0, 1, 1)?;
+    let bright = Kind::Solid(Px { a: 254, ..RED });
+    assert!(rt; !bright.fits(place));
+    let made = Primitive::new(bright, place, Sequence::new(rt.alloc()));
     assert!(rt; made.is_none());
     colour_laws();
     Ok(())
@@ -34,20 +31,12 @@ fn colours_must_be_premultiplied(rt: HostRuntime) -> Result<(), Fail> {
 
 #[test]
 fn a_solid_of_full_alpha_is_opaque(rt: HostRuntime) -> Result<(), Fail> {
+    let place = rect(0, 0, 1, 1)?;
+    let full = plain(rt.alloc(), Kind::Solid(BLUE), place)?;
+    let nearly = plain(rt.alloc(), Kind::Solid(grey(254)), place)?;
     let store = Store::new(rt.alloc());
-    let full = solid(rt.alloc(), BLUE, rect(0, 0, 1, 1)?)?;
-    assert!(rt; is_opaque(&full, &store));
-    let nearly = solid(rt.alloc(), grey(254), rect(0, 0, 1, 1)?)?;
-    assert!(rt; !is_opaque(&nearly, &store));
+    assert!(rt; is_opaque(&full, &store) && !is_opaque(&nearly, &store));
     Ok(())
-}
-
-fn clipped(alloc: Global, first: Clip, second: Clip) -> Result<Primitive, Fail> {
-    let mut clips = Sequence::new(alloc);
-    clips.push(first)?;
-    clips.push(second)?;
-    let made = Primitive::new(Kind::Solid(RED), rect(0, 0, 8, 8)?, clips);
-    Ok(made.ok_or("doesn't fit")?)
 }
 
 #[test]
@@ -57,22 +46,9 @@ fn clips_of_mode_in_cut(rt: HostRuntime) -> Result<(), Fail> {
         out: true,
         ..Clip::of_rect(rect(4, 4, 6, 6)?)
     };
-    let p = clipped(rt.alloc(), inwards, outwards)?;
-    assert_eq!(rt; visible(&p), rect(2, 0, 8, 5)?);
-    Ok(())
-}
-
-#[test]
-fn a_use_decides_what_is_opaque(rt: HostRuntime) -> Result<(), Fail> {
-    let store = stored_image(rt.alloc())?;
-    let kind = Kind::Image {
-        pipeline: 1,
-        key: 9,
-        generation: Some(1),
-        u: 0,
-        v: 0,
-    };
-    let p = plain(rt.alloc(), kind, rect(0, 0, 2, 2)?)?;
-    assert!(rt; !is_opaque(&p, &store));
+    let (place, cut) = (rect(0, 0, 8, 8)?, rect(2, 0, 8, 5)?);
+    let clips = Sequence::from_vec(Vec::from_slice(rt.alloc(), &[inwards, outwards])?);
+    let p = Primitive::new(Kind::Solid(RED), place, clips).ok_or("doesn't fit")?;
+    assert_eq!(rt; visible(&p), cut);
     Ok(())
 }

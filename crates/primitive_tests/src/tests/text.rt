@@ -1,9 +1,9 @@
 //! Glyphs of a text.
 
-use super::made::{WHITE, grey, plain, rect, stored_glyphs};
+use super::made::{four, grey, plain, rect, stored_glyphs};
 use blend_rules::Px;
 use containers::Sequence;
-use primitives::{GlyphUse, Kind, Primitive, colour_at, is_opaque};
+use primitives::{GlyphUse, Kind, Primitive, is_opaque};
 use std::alloc::Global;
 use std::test::Fail;
 
@@ -18,47 +18,46 @@ fn glyph(glyph: u16, x: i32, generation: Option<u64>) -> GlyphUse {
 
 /// White text of three glyphs in the rectangle from (0, 0) to (8, 1).
 fn text(alloc: Global, glyphs: [GlyphUse; 3]) -> Result<Primitive, Fail> {
-    let glyphs = Sequence::from_vec(Vec::from_slice(alloc, &glyphs)?);
+    let place = rect(0, 0, 8, 1)?;
     let kind = Kind::Text {
         pipeline: 1,
         font: 3,
-        colour: WHITE,
-        glyphs,
+        colour: grey(255),
+        glyphs: Sequence::from_vec(Vec::from_slice(alloc, &glyphs)?),
     };
-    plain(alloc, kind, rect(0, 0, 8, 1)?)
+    plain(alloc, kind, place)
 }
 
 #[test]
 fn glyphs_are_blended_in_order(rt: HostRuntime) -> Result<(), Fail> {
-    let store = stored_glyphs(rt.alloc())?;
     let glyphs = [
         glyph(5, 2, Some(1)),
         glyph(6, 2, Some(1)),
         glyph(7, 2, Some(2)),
     ];
     let p = text(rt.alloc(), glyphs)?;
+    let store = stored_glyphs(rt.alloc())?;
     // 1, and 128 over it; the other order would give 128.
-    assert_eq!(rt; colour_at(&p, &store, 2, 0), grey(129));
-    assert_eq!(rt; colour_at(&p, &store, 3, 0), grey(200));
-    assert_eq!(rt; colour_at(&p, &store, 4, 0), Px::CLEAR);
-    assert_eq!(rt; colour_at(&p, &store, 1, 0), Px::CLEAR);
+    assert_eq!(rt;
+        four(&p, &store, 1, 0),
+        [Px::CLEAR, grey(129), grey(200), Px::CLEAR]
+    );
     assert!(rt; !is_opaque(&p, &store));
     Ok(())
 }
 
 #[test]
 fn a_glyph_without_a_generation_is_not_drawn(rt: HostRuntime) -> Result<(), Fail> {
+    let glyphs = [
+        glyph(7, 0, None),
+        glyph(8, 1, Some(1)),
+        glyph(7, 3, Some(9)),
+    ];
+    let p = text(rt.alloc(), glyphs)?;
     let store = stored_glyphs(rt.alloc())?;
-    let p = text(
-        rt.alloc(),
-        [
-            glyph(7, 0, None),
-            glyph(8, 1, Some(1)),
-            glyph(7, 7, Some(9)),
-        ],
-    )?;
-    assert_eq!(rt; colour_at(&p, &store, 0, 0), Px::CLEAR);
-    assert_eq!(rt; colour_at(&p, &store, 1, 0), Px::CLEAR);
-    assert_eq!(rt; colour_at(&p, &store, 7, 0), grey(128));
+    assert_eq!(rt;
+        four(&p, &store, 0, 0),
+        [Px::CLEAR, Px::CLEAR, Px::CLEAR, grey(128)]
+    );
     Ok(())
 }
