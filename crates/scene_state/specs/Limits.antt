@@ -1,11 +1,12 @@
 -- The limits of a scene, and the scene after a transaction.
-use Rattle.std.specs.Prelude.{ℕ, ◌^◌, nat_lt, if◌then◌else◌, Option, Some, None, Bool, Ok, Err}
+use Rattle.std.specs.Prelude.{◌≡◌, ℕ, ◌^◌, nat_lt, if◌then◌else◌, Option, Some, None, Bool, Ok, Err}
 use Rattle.wr_io.specs.declared.fault.Code.{Code}
 use Rattle.wr_io.specs.declared.fault.Code.TheVariants as code
-use Rattle.image_store.specs.StoreModel.{StoreModel, pixel_count}
+use Rattle.image_store.specs.StoreModel.{StoreModel, IsStore, pixel_count}
+use Rattle.pipelines.specs.Table.{AreFit}
 use Rattle.scene_limits.specs.Limits.{scene_fault}
 use Rattle.txn_format.specs.Txn.{TxnModel}
-use Rattle.scene_state.specs.SceneModel.{SceneModel}
+use Rattle.scene_state.specs.SceneModel.{SceneModel, HasRanges}
 use Rattle.scene_state.specs.Operations.{Next, after_ops, then_next}
 
 -- more than 2^26 pixels are stored
@@ -20,6 +21,13 @@ first_limit None full = if full then Some code.TooManyPixels else None
 -- the first limit that a scene breaks, if it breaks one: what it would have expanded, and then what is stored
 abbrev pub limit_of : SceneModel → Option Code
 limit_of s = first_limit (scene_fault s.pipelines) (is_full s.store)
+
+-- what every scene is: its numbers are in their ranges, each list fits its pipeline, what is stored is whole, and no limit is broken
+pub record IsScene (s : SceneModel) : Type 0 where
+  pub ranges : HasRanges s
+  pub fit : AreFit s.pipelines
+  pub store : IsStore s.store
+  pub limits : limit_of s ≡ None
 
 -- a scene that breaks no limit, or the fault, at a position
 abbrev pub where_none : Option Code → ℕ → SceneModel → ℕ → Next

@@ -4,9 +4,10 @@ use Rattle.std.specs.FinMap as map
 use Rattle.std.specs.Coded.{Coded, code_by, coded×, coded_ℕ}
 use Rattle.blend_rules.specs.declared.colour.Px.{Px}
 use Rattle.blend_rules.specs.contracts.colour.Px as colours
-use Rattle.blend_rules.specs.Colour.{clear}
+use Rattle.blend_rules.specs.Colour.{clear, IsPixel}
 use Rattle.image_store.specs.StoreModel.{StoreModel, empty_store}
 use Rattle.image_store.specs.StoreCode.{store_code}
+use Rattle.txn_format.specs.Checks.{IsFromTo, IsTilePolicy}
 use Rattle.pipelines.specs.Table.{PipelineMap}
 use Rattle.pipelines.specs.contracts.table.Pipelines as pipeline_maps
 use Rattle.scene_state.specs.declared.policy.Policy.{Policy}
@@ -36,3 +37,10 @@ start = record {
   pipelines = map.empty;
   store = empty_store;
 }
+
+-- a view of sides that a transaction may give, a premultiplied colour, and a policy within its limits
+pub record HasRanges (s : SceneModel) : Type 0 where
+  pub width : IsFromTo 1 4096 s.view.0
+  pub height : IsFromTo 1 4096 s.view.1
+  pub clear : IsPixel s.clear
+  pub policy : IsTilePolicy s.policy.tw s.policy.th s.policy.budget

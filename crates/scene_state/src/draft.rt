@@ -8,7 +8,8 @@ ghost use Rattle.image_store.specs.Changes.{image_added, image_updated, image_de
 ghost use Rattle.txn_format.specs.Checks.{AreTexels, EndsWithin, IsOp};
 ghost use Rattle.txn_format.specs.Models.{op_model, placed_model};
 ghost use Rattle.pipelines.specs.Table.{AreFit};
-ghost use Rattle.scene_state.specs.SceneModel.{start};
+ghost use Rattle.image_store.specs.StoreModel.{IsStore};
+ghost use Rattle.scene_state.specs.SceneModel.{HasRanges, start};
 ghost use Rattle.scene_state.specs.StoreFaults.{fault_at};
 ghost use Rattle.scene_state.specs.Operations.{after_op, where_changed, where_read, where_removed};
 ghost use Rattle.scene_state.specs.Outcome.{Leaves};
@@ -18,7 +19,7 @@ use crate::{ApplyError, Policy};
 use blend_rules::Px;
 use containers::Shared;
 use display_list::{decode, spelling_laws};
-use image_store::{Gens, Store};
+use image_store::{Gens, Store, know_store};
 use pipelines::{Change, Listed, Pipelines};
 use std::alloc::Global;
 use std::marker::Model;
@@ -40,8 +41,7 @@ pub(crate) struct Draft {
 }
 
 impl Model for Draft {
-    ghost use Rattle.blend_rules.specs.Colour.{IsPixel};
-    ghost use Rattle.scene_state.specs.SceneModel.{SceneModel, scene_code};
+    ghost use Rattle.scene_state.specs.SceneModel.{SceneModel, scene_code, HasRanges};
 
     ghost Value = { SceneModel };
 
@@ -49,7 +49,7 @@ impl Model for Draft {
 
     ghost view = { λ s. record { view = s.view; clear = s.clear; policy = s.policy; pipelines = s.pipelines; store = s.store } };
 
-    ghost invariant = { λ s. IsPixel s.clear };
+    ghost invariant = { λ s. HasRanges (record { view = s.view; clear = s.clear; policy = s.policy; pipelines = s.pipelines; store = s.store }) };
 }
 
 impl Draft {
@@ -69,6 +69,16 @@ impl Draft {
             store: Shared::new(alloc, Store::new(alloc)),
             alloc,
         }
+    }
+
+    /// What is known of every draft, for whoever reasons about it. It does nothing.
+    pub(crate) fn know(&self)
+        ensures ranges { HasRanges self.now }
+        ensures fit { AreFit self.now.pipelines }
+        ensures store { IsStore self.now.store }
+    {
+        let _pipeline = self.pipelines.get(0);
+        know_store(self.store.get());
     }
 
     /// The same once more. Nothing is copied until one of the two changes it.

@@ -11,4 +11,4 @@ mod scene;
 pub use error::ApplyError;
 pub use limits::MAX_STORED_PIXELS;
 pub use policy::Policy;
-pub use scene::Scene;
+pub use scene::{Scene, know_scene};

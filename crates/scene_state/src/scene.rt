@@ -4,11 +4,10 @@ ghost use Rattle.std.specs.Prelude.{◌≡◌, ◌↔◌, ◌≤◌, ℕ, IsTrue
 ghost use Rattle.scene_limits.specs.Drawn.{IsDrawn, is_drawn};
 ghost use Rattle.std.specs.Option.{option_copied, option_map};
 ghost use Rattle.wr_io.specs.declared.fault.Code.TheVariants as code;
-ghost use Rattle.blend_rules.specs.Colour.{IsPixel};
 ghost use Rattle.pipelines.specs.Table.{pipeline_at, list_at};
 ghost use Rattle.scene_state.specs.SceneModel.{SceneModel, start};
 ghost use Rattle.scene_state.specs.Operations.{after_ops};
-ghost use Rattle.scene_state.specs.Limits.{is_full, limit_of, next_scene};
+ghost use Rattle.scene_state.specs.Limits.{IsScene, is_full, limit_of, next_scene};
 ghost use Rattle.scene_state.specs.Outcome.{Answers};
 
 use crate::draft::Draft;
@@ -113,6 +112,13 @@ impl Scene {
     }
 }
 
+/// What is known of every scene, for whoever reasons about it. It does nothing.
+pub fn know_scene(scene: &Scene)
+    ensures { IsScene scene.now }
+{
+    scene.draft.know();
+}
+
 impl Scene {
     /// The view's sides, 1 to 4,096 pixels.
     pub fn view(&self) -> (u16, u16)
@@ -123,8 +129,7 @@ impl Scene {
 
     /// The premultiplied colour under all items.
     pub fn clear(&self) -> Px
-        ensures value { result ≡ self.now.clear }
-        ensures pixel { IsPixel self.now.clear }
+        ensures { result ≡ self.now.clear }
     {
         self.draft.clear
     }
