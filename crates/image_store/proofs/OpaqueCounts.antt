@@ -37,7 +37,7 @@ solid_all (x ∷ xs) f =
     let here : x ≡ 255 = f zero (omega arith) in
     let rest : opaque_count xs ≡ length xs = solid_all xs (λ i h. f (suc i) (omega arith)) in
     let c = opaque_count-cons x xs in
-    let one : cond (x == 255) 1 0 ≡ 1 = ap (λ a. cond (a == 255) 1 0) here in
+    let one : ◌≡◌ {A = ℕ} (cond (x == 255) 1 0) 1 = ap (λ a. cond (a == 255) 1 0) here in
     c ∙ ap (λ n. n + opaque_count xs) one ∙ ap (λ n. 1 + n) rest ∙ (omega arith)
 
 pub opaque_count-le : (at n : ℕ) (xs : List ℕ) → opaque_count (take n (drop at xs)) ≤ opaque_count xs

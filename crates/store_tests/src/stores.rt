@@ -75,3 +75,27 @@ fn the_laws_are_at_hand(rt: HostRuntime) -> Result<(), Fail> {
     assert_eq!(rt; store.pixels(), 0);
     Ok(())
 }
+
+/// Deletes in a fork and adds to it, where any call may run out of memory but the deletion.
+fn deletes_without_memory(store: &Store, gens: &mut Gens) -> bool {
+    let Ok(mut fork) = store.fork() else {
+        return true;
+    };
+    if fork.delete(0, 7).is_err() || generation(store, 0, 7) != 1 {
+        return false;
+    }
+    let added = fork.add_image(gens, 0, 9, 1, 1, &[1; 4]).is_ok();
+    generation(&fork, 0, 7) == 0 && (generation(&fork, 0, 9) != 0) == added
+}
+
+#[test]
+fn a_deletion_needs_no_memory(rt: HostRuntime) -> Result<(), Fail> {
+    let mut gens = Gens::new();
+    let Ok(mut store) = two_images(rt.alloc(), &mut gens) else {
+        return Ok(());
+    };
+    if store.add_image(&mut gens, 0, 8, 1, 1, &[0; 4]).is_ok() {
+        assert!(rt; deletes_without_memory(&store, &mut gens));
+    }
+    Ok(())
+}
