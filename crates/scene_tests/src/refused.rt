@@ -20,56 +20,68 @@ const CLIPPED: [u8; 25] = [
     6, 0, 0, 0, 0, 0, 0, 0, 0, 0, 0, 0, 0, 4, 0, 0, 0, 4, 0, 0, 0, 1, 2, 3, 4,
 ];
 
-/// The start of a context.
+/// The start of a text of 16,384 glyphs, and a text of one glyph.
+const TEXT: [u8; 29] = [
+    9, 0, 0, 255, 255, 0, 0, 0, 0, 0, 0, 0, 0, 4, 0, 0, 0, 4, 0, 0, 0, 0, 0, 1, 2, 3, 4, 0, 64,
+];
+
+const GLYPH: [u8; 39] = [
+    9, 0, 0, 255, 255, 0, 0, 0, 0, 0, 0, 0, 0, 4, 0, 0, 0, 4, 0, 0, 0, 0, 0, 1, 2, 3, 4, 1, 0, 0,
+    0, 0, 0, 0, 0, 0, 0, 0, 0,
+];
+
+/// The start of a context, and its end.
 const PUSH: [u8; 10] = [10, 0, 0, 255, 255, 255, 255, 255, 0, 0];
 
-/// A step in pixels.
-const STEP: i32 = 1 << 20;
+const POP: [u8; 1] = [11];
 
-/// An Iframe at a node, under chain 0 (0) or none (255), at a column.
-fn iframe(node: u8, chain: u8, x: i32, pipeline: u8) -> [u8; 22] {
-    let [a, b, c, d] = x.to_le_bytes();
-    [
-        12, node, 0, chain, chain, a, b, c, d, 0, 0, 0, 0, a, b, c, d, 0, 0, 0, 0, pipeline,
-    ]
-}
+/// A clip, and the start of a chain of it.
+const CHAIN: [u8; 22] = [
+    3, 0, 0, 0, 0, 0, 0, 0, 0, 0, 0, 8, 0, 0, 0, 8, 0, 0, 0, 5, 255, 255,
+];
 
-/// A reference frame, so far to the right of its parent.
-fn reference(parent: u8, x: i32) -> [u8; 13] {
-    let [a, b, c, d] = x.to_le_bytes();
-    [1, parent, 0, a, b, c, d, 0, 0, 0, 0, 255, 255]
-}
+/// Iframes, each without the pipeline that it names: under no chain, and under chain 0.
+const IFRAME: [u8; 21] = [
+    12, 0, 0, 255, 255, 0, 0, 0, 0, 0, 0, 0, 0, 4, 0, 0, 0, 4, 0, 0, 0,
+];
 
-/// A clip, and the start of a chain of it so many times.
-fn chain(clips: u8) -> [u8; 23] {
-    [
-        3, 0, 0, 0, 0, 0, 0, 0, 0, 0, 0, 8, 0, 0, 0, 8, 0, 0, 0, 5, 255, 255, clips,
-    ]
-}
+const CLIPPED_IFRAME: [u8; 21] = [
+    12, 0, 0, 0, 0, 0, 0, 0, 0, 0, 0, 0, 0, 4, 0, 0, 0, 4, 0, 0, 0,
+];
 
-/// The start of a text of so many glyphs.
-fn text(glyphs: u16) -> [u8; 29] {
-    let [a, b] = glyphs.to_le_bytes();
-    [
-        9, 0, 0, 255, 255, 0, 0, 0, 0, 0, 0, 0, 0, 4, 0, 0, 0, 4, 0, 0, 0, 0, 0, 1, 2, 3, 4, a, b,
-    ]
-}
+/// Two nodes, each 2^20 pixels to the right of its parent.
+const NODES: [u8; 26] = [
+    1, 0, 0, 0, 0, 16, 0, 0, 0, 0, 0, 255, 255, 1, 1, 0, 0, 0, 16, 0, 0, 0, 0, 0, 255, 255,
+];
 
-fn repeat(bytes: &mut Vec<u8>, part: &[u8], times: u32) -> Result<(), AllocError> {
+/// A third node one pixel to the right of the second.
+const NODE: [u8; 13] = [1, 2, 0, 1, 0, 0, 0, 0, 0, 0, 0, 255, 255];
+
+/// An Iframe 2^20 pixels to the right of the second node, without the pipeline that it names.
+const STEP: [u8; 21] = [
+    12, 2, 0, 255, 255, 0, 0, 16, 0, 0, 0, 0, 0, 0, 0, 16, 0, 0, 0, 0, 0,
+];
+
+fn add(bytes: &mut Vec<u8>, part: &[u8], times: u32) -> Result<(), AllocError> {
     for _ in 0..times {
         bytes.extend_from_slice(part)?;
     }
     Ok(())
 }
 
-/// The parts and the End.
-fn list_of(alloc: Global, parts: &[(&[u8], u32)]) -> Result<Vec<u8>, AllocError> {
+/// A part so many times.
+fn repeated(alloc: Global, part: &[u8], times: u32) -> Result<Vec<u8>, AllocError> {
     let mut bytes = Vec::new(alloc);
-    for (part, times) in parts {
-        repeat(&mut bytes, part, *times)?;
-    }
-    bytes.push(0)?;
+    add(&mut bytes, part, times)?;
     Ok(bytes)
+}
+
+/// So many Iframes of a pipeline.
+fn iframes(alloc: Global, pipeline: u8, times: u32) -> Result<Vec<u8>, AllocError> {
+    let mut frame = Vec::new(alloc);
+    frame.extend_from_slice(&IFRAME)?;
+    frame.push(pipeline)?;
+    repeated(alloc, &frame, times)
 }
 
 fn put_list(pipelines: &mut Pipelines, alloc: Global, p: u8, list: List) -> Result<(), NoMemory>
@@ -79,11 +91,12 @@ fn put_list(pipelines: &mut Pipelines, alloc: Global, p: u8, list: List) -> Resu
     pipelines.set_list(p, Listed::new(alloc, list, 0)?)
 }
 
-/// Makes the list of these parts that of a pipeline.
-fn put(pipelines: &mut Pipelines, alloc: Global, p: u8, parts: &[(&[u8], u32)]) -> Result<(), Fail>
+/// Makes the list of these bytes and the End that of a pipeline.
+fn put(pipelines: &mut Pipelines, alloc: Global, p: u8, bytes: Vec<u8>) -> Result<(), Fail>
     requires { p ≤ 63 }
 {
-    let bytes = list_of(alloc, parts)?;
+    let mut bytes = bytes;
+    bytes.push(0)?;
     if bytes.len() > 1 << 26 {
         None.ok_or("the list is too long")?
     }
@@ -93,11 +106,7 @@ fn put(pipelines: &mut Pipelines, alloc: Global, p: u8, parts: &[(&[u8], u32)]) 
 }
 
 /// The fault of a scene in which pipeline 0 shows pipeline 1.
-fn fault_of(
-    alloc: Global,
-    root: &[(&[u8], u32)],
-    shown: &[(&[u8], u32)],
-) -> Result<Option<Code>, Fail> {
+fn fault_of(alloc: Global, root: Vec<u8>, shown: Vec<u8>) -> Result<Option<Code>, Fail> {
     let mut pipelines = Pipelines::new(alloc);
     put(&mut pipelines, alloc, 0, root)?;
     put(&mut pipelines, alloc, 1, shown)?;
@@ -105,27 +114,28 @@ fn fault_of(
     Ok(fault)
 }
 
+/// Of a list that is shown twice, of so many solids.
+fn solids(alloc: Global, times: u32) -> Result<Option<Code>, Fail> {
+    let root = iframes(alloc, 1, 2)?;
+    let shown = repeated(alloc, &SOLID, times)?;
+    fault_of(alloc, root, shown)
+}
+
 #[test]
 fn items(rt: HostRuntime) -> Result<(), Fail> {
-    let twice = iframe(0, 255, 0, 1);
-    let root = [(twice.as_slice(), 2)];
-    let fault = fault_of(rt.alloc(), &root, &[(&SOLID, 32_767)])?;
-    assert_eq!(rt; fault, None);
-    let fault = fault_of(rt.alloc(), &root, &[(&SOLID, 32_768)])?;
-    assert_eq!(rt; fault, Some(Code::TooManyItems));
+    assert_eq!(rt; solids(rt.alloc(), 32_767)?, None);
+    assert_eq!(rt; solids(rt.alloc(), 32_768)?, Some(Code::TooManyItems));
     Ok(())
 }
 
-/// 33 contexts around what shows contexts.
+/// Of 33 contexts around an Iframe that shows contexts.
 fn nested(alloc: Global, contexts: u32) -> Result<Option<Code>, Fail> {
-    let frame = iframe(0, 255, 0, 1);
-    let root = [
-        (PUSH.as_slice(), 33),
-        (frame.as_slice(), 1),
-        ([11].as_slice(), 33),
-    ];
-    let shown = [(PUSH.as_slice(), contexts), ([11].as_slice(), contexts)];
-    fault_of(alloc, &root, &shown)
+    let mut root = repeated(alloc, &PUSH, 33)?;
+    add(&mut root, &iframes(alloc, 1, 1)?, 1)?;
+    add(&mut root, &POP, 33)?;
+    let mut shown = repeated(alloc, &PUSH, contexts)?;
+    add(&mut shown, &POP, contexts)?;
+    fault_of(alloc, root, shown)
 }
 
 #[test]
@@ -135,16 +145,21 @@ fn contexts(rt: HostRuntime) -> Result<(), Fail> {
     Ok(())
 }
 
-/// So many clips around what shows solids.
+/// A chain of so many clips.
+fn chain(alloc: Global, clips: u8) -> Result<Vec<u8>, AllocError> {
+    let mut bytes = repeated(alloc, &CHAIN, 1)?;
+    bytes.push(clips)?;
+    add(&mut bytes, &[0, 0], u32::from(clips))?;
+    Ok(bytes)
+}
+
+/// Of an Iframe under so many clips that shows solids.
 fn clipped(alloc: Global, clips: u8, solids: u32) -> Result<Option<Code>, Fail> {
-    let chain = chain(clips);
-    let frame = iframe(0, 0, 0, 1);
-    let root = [
-        (chain.as_slice(), 1),
-        ([0, 0].as_slice(), u32::from(clips)),
-        (frame.as_slice(), 1),
-    ];
-    fault_of(alloc, &root, &[(&SOLID, solids)])
+    let mut root = chain(alloc, clips)?;
+    add(&mut root, &CLIPPED_IFRAME, 1)?;
+    root.push(1)?;
+    let shown = repeated(alloc, &SOLID, solids)?;
+    fault_of(alloc, root, shown)
 }
 
 #[test]
@@ -155,15 +170,11 @@ fn clips_of_one(rt: HostRuntime) -> Result<(), Fail> {
     Ok(())
 }
 
-/// A pipeline of its own with so many solids under 128 clips.
+/// Of so many solids under 128 clips each.
 fn clips(alloc: Global, solids: u32) -> Result<Option<Code>, Fail> {
-    let chain = chain(128);
-    let root = [
-        (chain.as_slice(), 1),
-        ([0, 0].as_slice(), 128),
-        (CLIPPED.as_slice(), solids),
-    ];
-    fault_of(alloc, &root, &[])
+    let mut root = chain(alloc, 128)?;
+    add(&mut root, &CLIPPED, solids)?;
+    fault_of(alloc, root, Vec::new(alloc))
 }
 
 #[test]
@@ -173,155 +184,112 @@ fn clips_of_all(rt: HostRuntime) -> Result<(), Fail> {
     Ok(())
 }
 
-/// So many pipelines from number 0 on that each show the next one twice.
-fn doubled(alloc: Global, n: u8) -> Result<Pipelines, Fail>
+/// So many pipelines from number 0 on that each show the next one twice, and then a list of these bytes.
+fn doubled(alloc: Global, n: u8, last: Vec<u8>) -> Result<Option<Code>, Fail>
     requires { n ≤ 63 }
 {
     let mut pipelines = Pipelines::new(alloc);
     for p in 0..n {
-        let twice = iframe(0, 255, 0, p + 1);
-        put(&mut pipelines, alloc, p, &[(twice.as_slice(), 2)])?;
+        let twice = iframes(alloc, p + 1, 2)?;
+        put(&mut pipelines, alloc, p, twice)?;
     }
-    Ok(pipelines)
+    put(&mut pipelines, alloc, n, last)?;
+    let fault = scene_fault(alloc, &pipelines)?;
+    Ok(fault)
+}
+
+/// Of 64 texts of 16,384 glyphs, each with so many glyphs beside it.
+fn texts(alloc: Global, more: u32) -> Result<Option<Code>, Fail> {
+    let mut last = repeated(alloc, &TEXT, 1)?;
+    add(&mut last, &[0; 10], 16_384)?;
+    add(&mut last, &GLYPH, more)?;
+    doubled(alloc, 6, last)
 }
 
 #[test]
 fn glyphs(rt: HostRuntime) -> Result<(), Fail> {
-    let alloc = rt.alloc();
-    let mut pipelines = doubled(alloc, 6)?;
-    let texts = text(16_384);
-    put(
-        &mut pipelines,
-        alloc,
-        6,
-        &[(texts.as_slice(), 1), (&[0; 10], 16_384)],
-    )?;
-    assert_eq!(rt; scene_fault(alloc, &pipelines)?, None);
-    put(
-        &mut pipelines,
-        alloc,
-        6,
-        &[
-            (texts.as_slice(), 1),
-            (&[0; 10], 16_384),
-            (text(1).as_slice(), 1),
-            (&[0; 10], 1),
-        ],
-    )?;
-    assert_eq!(rt; scene_fault(alloc, &pipelines)?, Some(Code::TooManyItems));
+    assert_eq!(rt; texts(rt.alloc(), 0)?, None);
+    assert_eq!(rt; texts(rt.alloc(), 1)?, Some(Code::TooManyItems));
     Ok(())
 }
 
 #[test]
 fn many_places(rt: HostRuntime) -> Result<(), Fail> {
-    let alloc = rt.alloc();
-    let mut pipelines = doubled(alloc, 63)?;
-    put(&mut pipelines, alloc, 63, &[])?;
-    assert_eq!(rt; scene_fault(alloc, &pipelines)?, Some(Code::TooManyItems));
+    let fault = doubled(rt.alloc(), 63, Vec::new(rt.alloc()))?;
+    assert_eq!(rt; fault, Some(Code::TooManyItems));
     Ok(())
 }
 
-/// So many pipelines from number 0 on: each has two nodes, each a step farther, and shows the next one a
-/// step from the second node.
-fn stairs(alloc: Global, n: u8, step: i32) -> Result<Pipelines, Fail>
-    requires { n ≤ 63 }
-{
-    let mut pipelines = Pipelines::new(alloc);
-    for p in 0..n {
-        let first = reference(0, step);
-        let second = reference(1, step);
-        let frame = iframe(2, 255, step, p + 1);
-        let parts = [
-            (first.as_slice(), 1),
-            (second.as_slice(), 1),
-            (frame.as_slice(), 1),
-        ];
-        put(&mut pipelines, alloc, p, &parts)?;
-    }
-    Ok(pipelines)
-}
-
-/// Whether the last node may be so many steps, and whether it may be farther.
-fn reach(alloc: Global, step: i32, more: i32) -> Result<(Option<Code>, Option<Code>), Fail> {
-    let mut pipelines = stairs(alloc, 42, step)?;
-    let first = reference(0, step);
-    let second = reference(1, step);
-    let third = reference(2, more);
-    put(
-        &mut pipelines,
-        alloc,
-        42,
-        &[(first.as_slice(), 1), (second.as_slice(), 1)],
-    )?;
-    let near = scene_fault(alloc, &pipelines)?;
-    put(
-        &mut pipelines,
-        alloc,
-        42,
-        &[
-            (first.as_slice(), 1),
-            (second.as_slice(), 1),
-            (third.as_slice(), 1),
-        ],
-    )?;
-    let far = scene_fault(alloc, &pipelines)?;
-    Ok((near, far))
-}
-
-#[test]
-fn offsets(rt: HostRuntime) -> Result<(), Fail> {
-    assert_eq!(rt; reach(rt.alloc(), STEP, 1)?, (None, Some(Code::TooDeep)));
-    assert_eq!(rt; reach(rt.alloc(), -STEP, -1)?, (None, Some(Code::TooDeep)));
-    Ok(())
-}
-
-#[test]
-fn a_frame_far_out(rt: HostRuntime) -> Result<(), Fail> {
-    let alloc = rt.alloc();
-    let mut pipelines = stairs(alloc, 43, STEP)?;
-    assert_eq!(rt; scene_fault(alloc, &pipelines)?, None);
-    put(&mut pipelines, alloc, 43, &[])?;
-    assert_eq!(rt; scene_fault(alloc, &pipelines)?, Some(Code::TooDeep));
-    Ok(())
+/// 32,768 solids that are shown twice under 255 clips.
+fn deep_and_large(alloc: Global) -> Result<Option<Code>, Fail> {
+    let mut root = chain(alloc, 255)?;
+    add(&mut root, &CLIPPED_IFRAME, 1)?;
+    root.push(1)?;
+    add(&mut root, &iframes(alloc, 1, 1)?, 1)?;
+    let shown = repeated(alloc, &SOLID, 32_768)?;
+    fault_of(alloc, root, shown)
 }
 
 #[test]
 fn depth_before_items(rt: HostRuntime) -> Result<(), Fail> {
-    let alloc = rt.alloc();
-    let mut pipelines = doubled(alloc, 63)?;
-    let last = iframe(0, 255, 0, 63);
-    put(
-        &mut pipelines,
-        alloc,
-        62,
-        &[
-            (PUSH.as_slice(), 1),
-            (last.as_slice(), 2),
-            ([11].as_slice(), 1),
-        ],
-    )?;
-    put(
-        &mut pipelines,
-        alloc,
-        63,
-        &[(PUSH.as_slice(), 64), ([11].as_slice(), 64)],
-    )?;
-    assert_eq!(rt; scene_fault(alloc, &pipelines)?, Some(Code::TooDeep));
+    assert_eq!(rt; deep_and_large(rt.alloc())?, Some(Code::TooDeep));
+    Ok(())
+}
+
+/// So many pipelines from number 0 on, each of which puts the next one 3 * 2^20 pixels farther right.
+fn stairs(alloc: Global, n: u8) -> Result<Pipelines, Fail>
+    requires { n ≤ 63 }
+{
+    let mut pipelines = Pipelines::new(alloc);
+    for p in 0..n {
+        let mut bytes = repeated(alloc, &NODES, 1)?;
+        add(&mut bytes, &STEP, 1)?;
+        bytes.push(p + 1)?;
+        put(&mut pipelines, alloc, p, bytes)?;
+    }
+    Ok(pipelines)
+}
+
+/// Of a second node at exactly 2^27, and so many nodes beyond.
+fn reach(alloc: Global, more: u32) -> Result<Option<Code>, Fail> {
+    let mut pipelines = stairs(alloc, 42)?;
+    let mut bytes = repeated(alloc, &NODES, 1)?;
+    add(&mut bytes, &NODE, more)?;
+    put(&mut pipelines, alloc, 42, bytes)?;
+    let fault = scene_fault(alloc, &pipelines)?;
+    Ok(fault)
+}
+
+#[test]
+fn offsets(rt: HostRuntime) -> Result<(), Fail> {
+    assert_eq!(rt; reach(rt.alloc(), 0)?, None);
+    assert_eq!(rt; reach(rt.alloc(), 1)?, Some(Code::TooDeep));
     Ok(())
 }
 
 #[test]
-fn drawn_pipelines(rt: HostRuntime) -> Result<(), Fail> {
-    let alloc = rt.alloc();
+fn an_iframe_far_out(rt: HostRuntime) -> Result<(), Fail> {
+    let mut pipelines = stairs(rt.alloc(), 43)?;
+    assert_eq!(rt; scene_fault(rt.alloc(), &pipelines)?, None);
+    put(&mut pipelines, rt.alloc(), 43, Vec::new(rt.alloc()))?;
+    assert_eq!(rt; scene_fault(rt.alloc(), &pipelines)?, Some(Code::TooDeep));
+    Ok(())
+}
+
+/// Pipeline 0 shows 1, which has a list, and 2, which has none; 3 has a list and isn't shown.
+fn shown(alloc: Global) -> Result<Pipelines, Fail> {
     let mut pipelines = Pipelines::new(alloc);
-    put(&mut pipelines, alloc, 1, &[])?;
-    assert_eq!(rt; drawn(&pipelines)[1], false);
-    let listed = iframe(0, 255, 0, 1);
-    let empty = iframe(0, 255, 0, 2);
-    let frames = [(listed.as_slice(), 1), (empty.as_slice(), 1)];
-    put(&mut pipelines, alloc, 0, &frames)?;
-    put(&mut pipelines, alloc, 3, &[])?;
-    let drawn = drawn(&pipelines);
+    let mut root = iframes(alloc, 1, 1)?;
+    add(&mut root, &iframes(alloc, 2, 1)?, 1)?;
+    put(&mut pipelines, alloc, 0, root)?;
+    put(&mut pipelines, alloc, 1, Vec::new(alloc))?;
+    put(&mut pipelines, alloc, 3, Vec::new(alloc))?;
+    Ok(pipelines)
+}
+
+#[test]
+fn drawn_pipelines(rt: HostRuntime) -> Result<(), Fail> {
+    let drawn = drawn(&shown(rt.alloc())?);
     assert_eq!(rt;
         (drawn[0], drawn[1], drawn[2], drawn[3]),
         (true, true, false, false)
