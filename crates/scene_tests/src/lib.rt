@@ -2,4 +2,10 @@
 #![tactic(auto)]
 
 #[cfg(test)]
+mod scenes;
+#[cfg(test)]
+mod stage;
+#[cfg(test)]
+mod stored;
+#[cfg(test)]
 mod summaries;
