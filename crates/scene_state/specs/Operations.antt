@@ -1,5 +1,5 @@
 -- What operations make of a scene and of the counter of generations, or the first fault.
-use Rattle.std.specs.Prelude.{ℕ, ◌+◌, List, [], ◌∷◌, Result, Ok, Err}
+use Rattle.std.specs.Prelude.{ℕ, ◌+◌, Bool, true, false, List, [], ◌∷◌, Result, Ok, Err}
 use Rattle.std.specs.FinMap as map
 use Rattle.wr_io.specs.declared.fault.Fault.{Fault}
 use Rattle.field_forms.specs.Outcome.{moved_fault}
@@ -63,3 +63,21 @@ then_next (Err f) follows = Err f
 abbrev pub after_ops : ℕ → List PlacedModel → SceneModel → ℕ → Next
 after_ops p [] s last = Ok (s, last)
 after_ops p (o ∷ os) s last = then_next (after_op p o.at o.op s last) (after_ops p os)
+
+-- ---- which operations can break a limit of what is drawn
+
+-- an operation changes what a pipeline has
+abbrev pub touches : OpModel → Bool
+touches (set_list epoch bytes) = true
+touches remove_pipeline = true
+touches (scroll sid x y) = true
+touches (set_offset id x y) = true
+touches (set_opacity id opacity) = true
+touches (add_image key w h pixels) = false
+touches (update_image key x y w h pixels) = false
+touches (delete_image key) = false
+touches (add_glyph font glyph w h mask) = false
+touches (delete_font font) = false
+touches (set_view w h clear) = false
+touches (tile_policy tw th budget) = false
+touches drop_tiles = false

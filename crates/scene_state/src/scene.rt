@@ -1,12 +1,14 @@
 //! A scene, and the next one.
 
-ghost use Rattle.std.specs.Prelude.{◌≡◌, ◌↔◌, ◌≤◌, ℕ, IsTrue, OnErr, IfOk};
+ghost use Rattle.std.specs.Prelude.{◌≡◌, ◌↔◌, ◌≤◌, ℕ, false, IsTrue, OnErr, IfOk};
 ghost use Rattle.scene_limits.specs.Drawn.{IsDrawn, is_drawn};
+ghost use Rattle.scene_limits.specs.Limits.{scene_fault};
 ghost use Rattle.std.specs.Option.{option_copied, option_map};
 ghost use Rattle.wr_io.specs.declared.fault.Code.TheVariants as code;
 ghost use Rattle.pipelines.specs.Table.{pipeline_at, list_at};
 ghost use Rattle.scene_state.specs.SceneModel.{SceneModel, start};
-ghost use Rattle.scene_state.specs.Operations.{after_ops};
+ghost use Rattle.txn_format.specs.Models.{op_model};
+ghost use Rattle.scene_state.specs.Operations.{after_ops, touches};
 ghost use Rattle.scene_state.specs.Limits.{IsScene, is_full, limit_of, next_scene};
 ghost use Rattle.scene_state.specs.Outcome.{Answers};
 
@@ -21,7 +23,7 @@ use scene_limits::{drawn, scene_fault};
 use spatial_tree::Moves;
 use std::alloc::Global;
 use std::marker::Model;
-use txn_format::Txn;
+use txn_format::{Op, Txn};
 use wr_geom::NoMemory;
 use wr_io::{Code, Fault};
 
@@ -52,17 +54,25 @@ fn is_full(store: &Store) -> bool
     store.pixels() > MAX_STORED_PIXELS
 }
 
-/// The first limit that a scene breaks, if it breaks one.
-fn broken_limit(draft: &Draft) -> Result<Option<Code>, NoMemory>
-    ensures { IfOk result (λ code. code ≡ limit_of draft.now) }
+/// Whether an operation changes what a pipeline has.
+fn touches(op: Op<'_>) -> bool
+    ensures { result ≡ touches (op_model op.entry) }
 {
-    if let Some(code) = scene_fault(draft.alloc, &draft.pipelines)? {
-        return Ok(Some(code));
+    match op {
+        Op::SetList { .. }
+        | Op::RemovePipeline
+        | Op::Scroll { .. }
+        | Op::SetOffset { .. }
+        | Op::SetOpacity { .. } => true,
+        Op::AddImage { .. }
+        | Op::UpdateImage { .. }
+        | Op::DeleteImage { .. }
+        | Op::AddGlyph { .. }
+        | Op::DeleteFont { .. }
+        | Op::SetView { .. }
+        | Op::TilePolicy { .. }
+        | Op::DropTiles => false,
     }
-    if is_full(draft.store.get()) {
-        return Ok(Some(Code::TooManyPixels));
-    }
-    Ok(None)
 }
 
 impl Scene {
@@ -86,8 +96,8 @@ impl Scene {
         ensures counter { OnErr result (gens.new ≡ gens.old) }
     {
         let mut counter = Gens::at(gens.last());
-        let draft = self.applied(txn, &mut counter)?;
-        if let Some(code) = broken_limit(&draft)? {
+        let (draft, touched) = self.applied(txn, &mut counter)?;
+        if let Some(code) = self.broken_limit(&draft, touched)? {
             return Err(ApplyError::Fault(Fault {
                 code,
                 at: txn.len(),
@@ -97,18 +107,49 @@ impl Scene {
         Ok(Scene { draft })
     }
 
-    /// What the operations of a transaction make, in order.
-    fn applied(&self, txn: &Txn<'_>, gens: &mut Gens) -> Result<Draft, ApplyError>
-        ensures { Answers (λ draft. (draft, gens.new)) result (after_ops txn.now.pipeline txn.now.ops self.now gens.old) }
+    /// What the operations of a transaction make, in order, and whether they can have changed what a pipeline
+    /// has.
+    fn applied(&self, txn: &Txn<'_>, gens: &mut Gens) -> Result<(Draft, bool), ApplyError>
+        ensures made { Answers (λ made. (made.0, gens.new)) result (after_ops txn.now.pipeline txn.now.ops self.now gens.old) }
+        ensures untouched { IfOk result (λ made. made.1 ≡ false → made.0.pipelines ≡ self.now.pipelines) }
     {
         let pipeline = txn.pipeline();
         let len = txn.len();
         let ops = txn.ops();
         let mut draft = self.draft.share()?;
+        let mut touched = false;
         for placed in ops {
             draft.apply(gens, pipeline, *placed)?;
+            touched = touched || touches(placed.op);
         }
-        Ok(draft)
+        Ok((draft, touched))
+    }
+
+    /// The limit of what is drawn that a draft breaks, if it breaks one. It is only asked for where it can have
+    /// changed since this scene.
+    fn drawn_limit(&self, draft: &Draft, touched: bool) -> Result<Option<Code>, NoMemory>
+        requires { touched ≡ false → draft.now.pipelines ≡ self.now.pipelines }
+        ensures { IfOk result (λ code. code ≡ scene_fault draft.now.pipelines) }
+    {
+        if touched {
+            return scene_fault(draft.alloc, &draft.pipelines);
+        }
+        know_scene(self);
+        Ok(None)
+    }
+
+    /// The first limit that a draft breaks, if it breaks one.
+    fn broken_limit(&self, draft: &Draft, touched: bool) -> Result<Option<Code>, NoMemory>
+        requires { touched ≡ false → draft.now.pipelines ≡ self.now.pipelines }
+        ensures { IfOk result (λ code. code ≡ limit_of draft.now) }
+    {
+        if let Some(code) = self.drawn_limit(draft, touched)? {
+            return Ok(Some(code));
+        }
+        if is_full(draft.store.get()) {
+            return Ok(Some(Code::TooManyPixels));
+        }
+        Ok(None)
     }
 }
 
