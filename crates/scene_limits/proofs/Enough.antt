@@ -1,5 +1,5 @@
 -- 64 levels of pipelines are enough.
-use Rattle.std.proofs.Common.{◌≡◌, ℕ, zero, suc, ◌+◌, ◌<◌, ◌≤◌, List, [], ◌∷◌, ◌++◌, map, Option, Some, None, refl, ap, ap₂, ◌∙◌, arith}
+use Rattle.std.proofs.Common.{sym, ◌≡◌, ℕ, zero, suc, ◌+◌, ◌<◌, ◌≤◌, List, [], ◌∷◌, ◌++◌, map, Option, Some, None, refl, ap, ap₂, ◌∙◌, arith}
 use Rattle.std.specs.List.{flat_map}
 use Rattle.wr_geom.specs.declared.point.Point.{Point}
 use Rattle.display_list.specs.ListModel.{ListModel}
@@ -15,7 +15,7 @@ use Rattle.spatial_tree.specs.Offsets.{offsets_of}
 use Rattle.scene_limits.specs.Drawn.{frames_of}
 use Rattle.scene_limits.specs.Expanded.{shown_list, expanded}
 use Rattle.scene_limits.specs.Places.{frame_origin, list_places, node_places}
-use Rattle.scene_limits.specs.Laws.{ItemsOfEachList, PlacesOfEachList}
+use Rattle.scene_limits.specs.Laws.{ItemsOfEachList, PlacesOfEachList, MoreLevelsShowNoMore}
 use Rattle.scene_limits.proofs.Frames.{names_above, any_left, any_right}
 use Rattle.scene_limits.proofs.Levels.{AgreeAt, agree_head, agree_tail}
 
@@ -69,6 +69,14 @@ items_of_each ps p fit =
     step 63 ps p
     ∙ same_shown (expanded 63 ps) (expanded 64 ps) (list_at ps p)
     (λ q name. let up : p < q = (names_above ps p q fit name).0 in let last : q ≤ 63 = (names_above ps p q fit name).1 in enough 63 64 ps q fit (omega arith) (omega arith) (omega arith))
+
+pub more_levels : MoreLevelsShowNoMore
+more_levels zero ps p fit le = absurd (omega arith)
+more_levels (suc n) ps p fit le =
+    step n ps p
+    ∙ same_shown (expanded n ps) (expanded 63 ps) (list_at ps p)
+    (λ q name. let up : p < q = (names_above ps p q fit name).0 in let last : q ≤ 63 = (names_above ps p q fit name).1 in enough n 63 ps q fit (omega arith) (omega arith) (omega arith))
+    ∙ sym (step 63 ps p)
 
 -- ---- places
 

@@ -48,7 +48,7 @@ list_frames own l h = trees_frames_are own (length l.nodes + 1) (length l.chains
 pub any_left : (q : ℕ) (fs gs : List Frame) → have_frame_of q fs ≡ true → have_frame_of q (fs ++ gs) ≡ true
 any_left q fs gs k = list_any-append (λ f. f.pipeline == q) fs gs ∙ ap (λ (b : Bool). b || have_frame_of q gs) k
 
-or-true : (b : Bool) → (b || true) ≡ true
+pub or-true : (b : Bool) → (b || true) ≡ true
 or-true true = refl
 or-true false = refl
 

@@ -13,11 +13,7 @@ use Rattle.list_summary.proofs.FrameSums.{summaries_tell}
 use Rattle.pipelines.specs.Table.{PipelineMap, list_at, AreFit}
 use Rattle.scene_limits.specs.Drawn.{AreReached, is_marked, frames_of, have_frame_of, names}
 use Rattle.scene_limits.specs.Expanded.{shown_list, expanded, list_totals, totals_in}
-use Rattle.scene_limits.proofs.Frames.{names_above}
-
-or-true : (b : Bool) → (b || true) ≡ true
-or-true true = refl
-or-true false = refl
+use Rattle.scene_limits.proofs.Frames.{or-true, names_above}
 
 -- ---- what agrees where it is named
 

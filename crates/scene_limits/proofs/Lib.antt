@@ -6,3 +6,4 @@ pub mod Marking
 pub mod Levels
 pub mod Reaches
 pub mod Enough
+pub mod Within

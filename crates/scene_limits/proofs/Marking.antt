@@ -1,24 +1,16 @@
 -- Marks of the pipelines that are reached, and those that are drawn.
 use Rattle.std.proofs.Common.{zero, suc, ◌≡◌, ℕ, ◌+◌, ◌<◌, ◌≤◌, Bool, true, false, ◌||◌, ◌&&◌, IsTrue, List, length, get_or, set, ◌==◌, refl, sym, ap, ◌∙◌, arith, inl, inr, true≢false}
-use Rattle.std.proofs.Math.Bool.{or-false}
+use Rattle.std.proofs.Math.Bool.{and-true, or-false}
 use Rattle.std.proofs.Math.ListN.{replicate}
 use Rattle.std.proofs.lemmas.Bool.{eq-eqb, ne_eqb, cases_eq, cases_lt, and_from, and_parts, or_cases}
 use Rattle.std.proofs.lemmas.List.{get_or-set_same, get_or-set_other, get_or_past, set_past, get_or-replicate, get_or_default}
 use Rattle.pipelines.specs.Table.{PipelineMap, AreFit}
 use Rattle.scene_limits.specs.Drawn.{is_marked, is_drawn, has_list, names, AreReached, AreDrawn, IsDrawn, root, named}
-use Rattle.scene_limits.proofs.Frames.{names_above, namer_listed}
-
-or-true : (b : Bool) → (b || true) ≡ true
-or-true true = refl
-or-true false = refl
+use Rattle.scene_limits.proofs.Frames.{or-true, names_above, namer_listed}
 
 and-false : (b : Bool) → (b && false) ≡ false
 and-false true = refl
 and-false false = refl
-
-and-true : (b : Bool) → (b && true) ≡ b
-and-true true = refl
-and-true false = refl
 
 -- ---- one mark
 

@@ -18,7 +18,7 @@ use Rattle.spatial_tree.specs.Offsets.{offset_of, offsets_of}
 use Rattle.spatial_tree.proofs.Places.{offset-root, offset-moved, table-has}
 use Rattle.scene_limits.specs.declared.room.Room.{Room}
 use Rattle.scene_limits.specs.Drawn.{AreReached, is_marked, frames_of}
-use Rattle.scene_limits.specs.Limits.{is_point_in_reach}
+use Rattle.scene_limits.specs.Limits.{is_point_in_reach, are_in_reach}
 use Rattle.scene_limits.specs.Places.{zero_point, frame_corner, frame_origin, list_places, node_places}
 use Rattle.scene_limits.specs.Rooms.{room_has, maybe_has, rooms_have, nodes_reach, frame_shift, frame_reaches, list_reaches, IsRoomOf}
 use Rattle.scene_limits.proofs.Frames.{AreFrames, list_frames}
@@ -80,12 +80,9 @@ root_reaches nodes m origin =
 
 -- ---- a list
 
--- all places are in reach
-abbrev pub all_reach : List Point → Bool
-all_reach places = list_all is_point_in_reach places
-
+-- all places of a pipeline are in reach
 abbrev pub reach_below : (ℕ → Point → List Point) → ℕ → Point → Bool
-reach_below below q origin = all_reach (below q origin)
+reach_below below q origin = are_in_reach (below q origin)
 
 frame_from_zero : (nodes : List Node) (m : MovesModel) (origin : Point) (f : Frame) → f.node ≤ length nodes
     → frame_origin nodes m origin f ≡ point_sum origin (frame_shift (offsets_of nodes m zero_point) f)
@@ -95,22 +92,22 @@ frame_from_zero nodes m origin f le =
     ∙ ap (λ (o : Point). point_sum origin (point_sum o (frame_corner f))) (sym (table-has nodes m zero_point f.node zero_point le))
 
 frames_tell : (own : ℕ) (below : ℕ → Point → List Point) (nodes : List Node) (m : MovesModel) (origin : Point) (fs : List Frame) → AreFrames own (length nodes + 1) fs
-    → all_reach (flat_map (λ f. below f.pipeline (frame_origin nodes m origin f)) fs) ≡ list_all (frame_reaches (reach_below below) (offsets_of nodes m zero_point) origin) fs
+    → are_in_reach (flat_map (λ f. below f.pipeline (frame_origin nodes m origin f)) fs) ≡ list_all (frame_reaches (reach_below below) (offsets_of nodes m zero_point) origin) fs
 frames_tell own below nodes m origin [] h = refl
 frames_tell own below nodes m origin (f ∷ fs) h =
     let node : f.node < length nodes + 1 = h.0.node in
     list_all-append is_point_in_reach (below f.pipeline (frame_origin nodes m origin f)) (flat_map (λ f. below f.pipeline (frame_origin nodes m origin f)) fs)
     ∙ ap₂ (λ (a b : Bool). a && b)
-    (ap (λ (o : Point). all_reach (below f.pipeline o)) (frame_from_zero nodes m origin f (omega arith)))
+    (ap (λ (o : Point). are_in_reach (below f.pipeline o)) (frame_from_zero nodes m origin f (omega arith)))
     (frames_tell own below nodes m origin fs h.1)
 
 list_tells : (own : ℕ) (below : ℕ → Point → List Point) (m : MovesModel) (o : Option ListModel) (origin : Point) → ((l : ListModel) → o ≡ Some l → IsListOf own l)
-    → list_reaches (reach_below below) m o origin ≡ all_reach (list_places below m o origin)
+    → list_reaches (reach_below below) m o origin ≡ are_in_reach (list_places below m o origin)
 list_tells own below m None origin fit = refl
 list_tells own below m (Some l) origin fit =
     sym (list_all-append is_point_in_reach (offsets_of l.nodes m origin) (flat_map (λ f. below f.pipeline (frame_origin l.nodes m origin f)) (summary_of l).frames)
     ∙ ap₂ (λ (a b : Bool). a && b)
-    (ap all_reach (offsets_from_zero l.nodes m origin) ∙ list_all-map is_point_in_reach (point_sum origin) (offsets_of l.nodes m zero_point))
+    (ap are_in_reach (offsets_from_zero l.nodes m origin) ∙ list_all-map is_point_in_reach (point_sum origin) (offsets_of l.nodes m zero_point))
     (frames_tell own below l.nodes m origin (summary_of l).frames (list_frames own l (fit l refl))))
 
 -- a room that is narrowed by nodes and then by Iframes
@@ -142,13 +139,13 @@ same_reaches f g m (Some l) origin h =
 -- from a pipeline on, where it is reached
 abbrev pub AreRooms : (ℕ → Bool) → List (Option Room) → PipelineMap → ℕ → Type 0
 AreRooms reached rooms ps low =
-    (q : ℕ) → low ≤ q → q < 64 → IsTrue (reached q) → (m : ℕ) → 64 ≤ m + q → (origin : Point) → rooms_have rooms q origin ≡ all_reach (node_places m ps q origin)
+    (q : ℕ) → low ≤ q → q < 64 → IsTrue (reached q) → (m : ℕ) → 64 ≤ m + q → (origin : Point) → rooms_have rooms q origin ≡ are_in_reach (node_places m ps q origin)
 
 pub rooms_start : (reached : ℕ → Bool) (rooms : List (Option Room)) (ps : PipelineMap) (low : ℕ) → 64 ≤ low → AreRooms reached rooms ps low
 rooms_start reached rooms ps low h q le lt on m k origin = absurd (omega arith)
 
 level : (marks : List Bool) (m : ℕ) (ps : PipelineMap) (p : ℕ) (r : Option Room) (rooms : List (Option Room)) → AreFit ps → AreReached marks ps → p < 64 → is_marked marks p ≡ true → 64 ≤ m + p
-    → IsRoomOf r (rooms_have rooms) (pipeline_at ps p).moves (list_at ps p) → AreRooms (is_marked marks) rooms ps (p + 1) → (origin : Point) → maybe_has r origin ≡ all_reach (node_places m ps p origin)
+    → IsRoomOf r (rooms_have rooms) (pipeline_at ps p).moves (list_at ps p) → AreRooms (is_marked marks) rooms ps (p + 1) → (origin : Point) → maybe_has r origin ≡ are_in_reach (node_places m ps p origin)
 unfolding node_places
 level marks zero ps p r rooms fit are lt on le is_r was origin = absurd (omega arith)
 level marks (suc m) ps p r rooms fit are lt on le is_r was origin =
@@ -167,7 +164,7 @@ rooms_grow marks ps p high r rooms fit are lt on size e is_r was q le low here m
           (let same : q ≡ p = omega arith in
           ap (λ (i : ℕ). rooms_have (set rooms p r) i origin) same ∙ ap (λ (o : Option Room). maybe_has o origin) (get_or-set_same rooms p r None (omega arith))
           ∙ level marks m ps p r rooms fit are lt on (omega arith) is_r (subst (AreRooms (is_marked marks) rooms ps) e was) origin
-          ∙ ap (λ (i : ℕ). all_reach (node_places m ps i origin)) (sym same))
+          ∙ ap (λ (i : ℕ). are_in_reach (node_places m ps i origin)) (sym same))
     ]
 
 pub rooms_stay : (marks : List Bool) (ps : PipelineMap) (p high : ℕ) (rooms : List (Option Room)) → high ≡ p + 1 → is_marked marks p ≡ false → AreRooms (is_marked marks) rooms ps high

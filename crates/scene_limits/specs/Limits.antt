@@ -25,9 +25,12 @@ is_in_reach z = int_le (neg_ℤ (pos (2 ^ 27))) z && int_le z (pos (2 ^ 27))
 abbrev pub is_point_in_reach : Point → Bool
 is_point_in_reach p = is_in_reach p.x && is_in_reach p.y
 
+abbrev pub are_in_reach : List Point → Bool
+are_in_reach places = list_all is_point_in_reach places
+
 -- a node is out of reach on an axis
 abbrev pub is_far : List Point → Bool
-is_far places = not (list_all is_point_in_reach places)
+is_far places = not (are_in_reach places)
 
 -- the first limit that the scene breaks, if it breaks one
 unfoldable pub scene_fault : PipelineMap → Option Code

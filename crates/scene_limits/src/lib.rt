@@ -12,6 +12,6 @@ mod room;
 mod totals;
 
 pub use fault::scene_fault;
-pub use laws::level_laws;
+pub use laws::{level_laws, limit_laws};
 pub use limits::{MAX_CLIPS, MAX_DISTANCE, MAX_GLYPHS, MAX_ITEM_CLIPS, MAX_ITEMS, MAX_NESTING};
 pub use marks::drawn;

@@ -5,7 +5,7 @@ ghost use Rattle.display_list.specs.Grammar.{Fits};
 
 use display_list::{List, decode};
 use pipelines::{Listed, Pipelines};
-use scene_limits::{drawn, level_laws, scene_fault};
+use scene_limits::{drawn, level_laws, limit_laws, scene_fault};
 use std::alloc::{AllocError, Global};
 use std::test::Fail;
 use wr_geom::NoMemory;
@@ -298,6 +298,7 @@ fn drawn_pipelines(rt: HostRuntime) -> Result<(), Fail> {
 }
 
 #[test]
-fn laws_of_levels() {
+fn laws_of_scenes() {
     level_laws();
+    limit_laws();
 }

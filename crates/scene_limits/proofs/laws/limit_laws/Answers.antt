@@ -1,0 +1,11 @@
+use Rattle.scene_limits.proofs.Within.{no_fault, nodes_in_reach, frames_in_reach}
+use Rattle.scene_limits.proofs.laws.limit_laws.Goals as goal
+
+pub returns-clause-within : goal.returns-clause-within
+returns-clause-within c = no_fault
+
+pub returns-clause-nodes : goal.returns-clause-nodes
+returns-clause-nodes c = nodes_in_reach
+
+pub returns-clause-frames : goal.returns-clause-frames
+returns-clause-frames c = frames_in_reach
