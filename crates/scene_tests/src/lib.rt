@@ -2,14 +2,6 @@
 #![tactic(auto)]
 
 #[cfg(test)]
-mod faults;
-#[cfg(test)]
 mod refused;
-#[cfg(test)]
-mod scenes;
-#[cfg(test)]
-mod stage;
-#[cfg(test)]
-mod stored;
 #[cfg(test)]
 mod summaries;
