@@ -5,6 +5,9 @@ use Rattle.std.proofs.Math.Nat.{mul-le-mul_right}
 use Rattle.std.proofs.lemmas.Nat.{mod_below}
 use Rattle.std.proofs.lemmas.List.Sums.{count_by-le-length}
 use Rattle.wr_geom.specs.Bounds.{Bounds, holds}
+use Rattle.wr_geom.specs.declared.point.Point.{Point}
+use Rattle.wr_geom.specs.declared.sides.Radii.{Radii}
+use Rattle.wr_geom.specs.declared.sides.Widths.{Widths}
 use Rattle.blend_rules.specs.Colour.{IsPixel, clear, scaled, blended}
 use Rattle.blend_rules.specs.declared.colour.Px.{Px}
 use Rattle.blend_rules.specs.declared.mode.Mode.TheVariants.{Normal}
@@ -15,13 +18,13 @@ use Rattle.clip_masks.proofs.Chains.{chain_byte, beside_cut}
 use Rattle.image_store.specs.Models.{ImageModel, MaskModel, IsImage, IsMask, mask_byte}
 use Rattle.image_store.specs.StoreModel.{StoreModel, IsStore, image_at, glyph_at}
 use Rattle.primitives.specs.declared.border.Edge.{Edge}
-use Rattle.primitives.specs.declared.border.Sides.{Sides}
+use Rattle.primitives.specs.declared.border.BorderColours.{BorderColours}
 use Rattle.primitives.specs.declared.kind.GlyphUse.{GlyphUse}
 use Rattle.primitives.specs.declared.kind.Kind.{Kind}
 use Rattle.primitives.specs.declared.kind.Kind.TheVariants as kind
 use Rattle.primitives.specs.PrimitiveModel.{PrimitiveModel, IsKind}
-use Rattle.primitives.specs.Borders.{border_coverage, colour_of_side, side_colour, is_horizontal, vertical_edge, horizontal_edge, pixels_before}
-use Rattle.primitives.specs.Colours.{resource_of_use, repeated_texel, mask_rect, mask_coverage, glyph_coverage, with_glyph, kind_colour, primitive_colour, covered_colour}
+use Rattle.primitives.specs.Borders.{HasPixelColours, border_colour, border_coverage, colour_of_side, side_colour, is_horizontal, vertical_edge, horizontal_edge, pixels_before}
+use Rattle.primitives.specs.Colours.{resource_of_use, repeated_texel, mask_rect, image_colour, mask_coverage, mask_over, glyph_use_over, kind_colour, primitive_colour, covered_colour}
 use Rattle.primitives.specs.Stacks.{Stack}
 use Rattle.primitives.specs.Facts.{IsOpaque, IsOpaqueImage}
 use Rattle.primitives.specs.Laws.{ColourIsPixel, CoveredIsPixel, ClearWhereNotVisible, OpaqueIsFull, OpaqueReplaces}
@@ -51,21 +54,24 @@ used_stored : {A : Type 0} (g : Option ℕ) (o : Option A) (a : A) → resource_
 used_stored None o a e = absurd cc
 used_stored (Some g) o a e = e
 
-image_pixel : (store : StoreModel) → IsStore store → (pipeline key : ℕ) (g : Option ℕ) (column row : ℕ) → IsPixel (repeated_texel (resource_of_use g (image_at store pipeline key)) column row)
-image_pixel store h pipeline key g column row =
+image_use_pixel : (store : StoreModel) → IsStore store → (pipeline key : ℕ) (g : Option ℕ) (column row : ℕ) → IsPixel (repeated_texel (resource_of_use g (image_at store pipeline key)) column row)
+image_use_pixel store h pipeline key g column row =
     texel_pixel (resource_of_use g (image_at store pipeline key)) (λ image e. h.images pipeline key image (used_stored g (image_at store pipeline key) image e)) column row
+
+pub image_pixel : (store : StoreModel) → IsStore store → (pipeline key : ℕ) (b : Bounds) (u v : ℕ) (x y : ℤ) → IsPixel (image_colour (image_at store pipeline key) b u v x y)
+image_pixel store h pipeline key b u v x y = texel_pixel (image_at store pipeline key) (h.images pipeline key) (pixels_before b.x0 x + u) (pixels_before b.y0 y + v)
 
 -- ---- borders
 
-side_pixel : (across down : Edge) (c : Sides) → IsPixel c.top → IsPixel c.right → IsPixel c.bottom → IsPixel c.left → IsPixel (colour_of_side across down c)
+side_pixel : (across down : Edge) (c : BorderColours) → HasPixelColours c → IsPixel (colour_of_side across down c)
 unfolding colour_of_side
-side_pixel across down c t r b l = by_tests (is_horizontal across down) down.is_first across.is_first
+side_pixel across down c is = by_tests (is_horizontal across down) down.is_first across.is_first
   where
     by_tests : (h d a : Bool) → IsPixel (if h then (if d then c.top else c.bottom) else (if a then c.left else c.right))
-    by_tests true true a = t
-    by_tests true false a = b
-    by_tests false d true = l
-    by_tests false d false = r
+    by_tests true true a = is.top
+    by_tests true false a = is.bottom
+    by_tests false d true = is.left
+    by_tests false d false = is.right
 
 samples_most : (s : Outline) (x y : ℤ) → samples_inside s x y ≤ 16
 unfolding samples_inside
@@ -74,6 +80,12 @@ samples_most s x y = count_by-le-length (λ (p : ℤ × ℤ). is_inside s p.0 p.
 border_byte : (outer : Outline) (w : _) (x y : ℤ) → border_coverage outer w x y < 2 ^ 8
 unfolding border_coverage
 border_byte outer w x y = let m = samples_most outer x y in omega arith
+
+pub border_pixel : (b : Bounds) (w : Widths) (c : BorderColours) (radii : Radii) (x y : ℤ) → HasPixelColours c → IsPixel (border_colour b w c radii x y)
+unfolding side_colour
+border_pixel b w c radii x y is =
+    let o : Outline = record { rect = b; radii = radii } in
+    scaled_is_pixel (side_colour b w c x y) (border_coverage o w x y) (border_byte o w x y) (side_pixel (vertical_edge b w x) (horizontal_edge b w y) c is)
 
 -- ---- text
 
@@ -86,32 +98,32 @@ mask_is_byte (Some mask) h x y = by_test (holds (mask_rect mask) x y)
     by_test true = (h mask refl).bytes (unsigned_abs y * mask.w + unsigned_abs x)
     by_test false = omega arith
 
-glyph_byte : (store : StoreModel) → IsStore store → (pipeline font : ℕ) (g : GlyphUse) (x y : ℤ) → glyph_coverage store pipeline font g x y < 2 ^ 8
-glyph_byte store h pipeline font g x y =
-    mask_is_byte (resource_of_use g.generation (glyph_at store pipeline font g.glyph)) (λ mask e. h.masks pipeline font g.glyph mask (used_stored g.generation (glyph_at store pipeline font g.glyph) mask e)) (x -ℤ g.x) (y -ℤ g.y)
+mask_over_pixel : (o : Option MaskModel) → ((mask : MaskModel) → o ≡ Some mask → IsMask mask) → (at : Point) (colour so_far : Px) (x y : ℤ) → IsPixel colour → IsPixel so_far → IsPixel (mask_over o at colour so_far x y)
+mask_over_pixel o h at colour so_far x y c s =
+    let n = mask_coverage o (x -ℤ at.x) (y -ℤ at.y) in
+    blend_is_pixel Normal (scaled colour n) so_far (scaled_is_pixel colour n (mask_is_byte o h (x -ℤ at.x) (y -ℤ at.y)) c).byte s.byte
 
-pub glyph_pixel : (store : StoreModel) → IsStore store → (pipeline font : ℕ) (colour : Px) (x y : ℤ) (g : GlyphUse) (so_far : Px) → IsPixel colour → IsPixel so_far → IsPixel (with_glyph store pipeline font colour x y so_far g)
-glyph_pixel store h pipeline font colour x y g so_far c s =
-    let thin = scaled_is_pixel colour (glyph_coverage store pipeline font g x y) (glyph_byte store h pipeline font g x y) c in
-    blend_is_pixel Normal (scaled colour (glyph_coverage store pipeline font g x y)) so_far thin.byte s.byte
+pub glyph_pixel : (store : StoreModel) → IsStore store → (pipeline font glyph : ℕ) (at : Point) (colour so_far : Px) (x y : ℤ) → IsPixel colour → IsPixel so_far → IsPixel (mask_over (glyph_at store pipeline font glyph) at colour so_far x y)
+glyph_pixel store h pipeline font glyph at colour so_far x y c s = mask_over_pixel (glyph_at store pipeline font glyph) (h.masks pipeline font glyph) at colour so_far x y c s
+
+glyph_use_pixel : (store : StoreModel) → IsStore store → (pipeline font : ℕ) (colour : Px) (x y : ℤ) (g : GlyphUse) (so_far : Px) → IsPixel colour → IsPixel so_far → IsPixel (glyph_use_over store pipeline font colour x y so_far g)
+glyph_use_pixel store h pipeline font colour x y g so_far c s =
+    let stored = glyph_at store pipeline font g.glyph in
+    mask_over_pixel (resource_of_use g.generation stored) (λ mask e. h.masks pipeline font g.glyph mask (used_stored g.generation stored mask e)) (record { x = g.x; y = g.y }) colour so_far x y c s
 
 text_pixel : (store : StoreModel) → IsStore store → (pipeline font : ℕ) (colour : Px) (x y : ℤ) → IsPixel colour → (glyphs : List GlyphUse) (so_far : Px) → IsPixel so_far
-    → IsPixel (fold (with_glyph store pipeline font colour x y) so_far glyphs)
+    → IsPixel (fold (glyph_use_over store pipeline font colour x y) so_far glyphs)
 text_pixel store h pipeline font colour x y c [] so_far s = s
 text_pixel store h pipeline font colour x y c (g ∷ gs) so_far s =
-    text_pixel store h pipeline font colour x y c gs (with_glyph store pipeline font colour x y so_far g) (glyph_pixel store h pipeline font colour x y g so_far c s)
+    text_pixel store h pipeline font colour x y c gs (glyph_use_over store pipeline font colour x y so_far g) (glyph_use_pixel store h pipeline font colour x y g so_far c s)
 
 -- ---- primitives
 
 kind_pixel : (store : StoreModel) → IsStore store → (b : Bounds) (k : Kind) (x y : ℤ) → IsKind b k → IsPixel (kind_colour store b k x y)
-unfolding side_colour
 kind_pixel store h b (kind.Solid colour) x y is = is
-kind_pixel store h b (kind.Image pipeline key g u v) x y is = image_pixel store h pipeline key g (pixels_before b.x0 x + u) (pixels_before b.y0 y + v)
+kind_pixel store h b (kind.Image pipeline key g u v) x y is = image_use_pixel store h pipeline key g (pixels_before b.x0 x + u) (pixels_before b.y0 y + v)
 kind_pixel store h b (kind.Border w top right bottom l radii) x y is =
-    let c : Sides = record { top = top; right = right; bottom = bottom; left = l } in
-    let o : Outline = record { rect = b; radii = radii } in
-    scaled_is_pixel (side_colour b w c x y) (border_coverage o w x y) (border_byte o w x y)
-    (side_pixel (vertical_edge b w x) (horizontal_edge b w y) c is.1 is.2 is.3 is.4)
+    border_pixel b w (record { top = top; right = right; bottom = bottom; left = l }) radii x y (record { top = is.1; right = is.2; bottom = is.3; left = is.4 })
 kind_pixel store h b (kind.Text pipeline font colour glyphs) x y is = text_pixel store h pipeline font colour x y is.0 glyphs clear clear_is_pixel
 
 pub colour_is_pixel : ColourIsPixel

@@ -1,5 +1,5 @@
 -- Moved primitives and entries do at moved points what they did.
-use Rattle.std.proofs.Common.{◌≡◌, ℕ, ◌+◌, ◌-◌, ℤ, pos, ◌+ℤ◌, ◌-ℤ◌, List, [], ◌∷◌, Bool, true, false, ◌&&◌, if◌then◌else◌, unsigned_abs, refl, sym, ap, ap₂, ◌∙◌, arith}
+use Rattle.std.proofs.Common.{◌≡◌, ℕ, ◌+◌, ◌-◌, ℤ, pos, ◌+ℤ◌, ◌-ℤ◌, Option, List, [], ◌∷◌, Bool, true, false, ◌&&◌, if◌then◌else◌, unsigned_abs, refl, sym, ap, ap₂, ◌∙◌, arith}
 use Rattle.std.specs.List.{fold}
 use Rattle.std.proofs.lemmas.Int.{ints}
 use Rattle.wr_geom.specs.Bounds.{Bounds, holds, shifted, intersection}
@@ -19,16 +19,17 @@ use Rattle.clip_masks.specs.declared.clip.Clip.{Clip}
 use Rattle.clip_masks.specs.Outline.{Outline, samples_inside, share, inset_of, shrunk_by, shifted_outline}
 use Rattle.clip_masks.proofs.Moves.{shifted_samples}
 use Rattle.clip_masks.proofs.Chains.{shifted_chain}
+use Rattle.image_store.specs.Models.{MaskModel}
 use Rattle.image_store.specs.StoreModel.{StoreModel, image_at, glyph_at}
 use Rattle.primitives.specs.declared.border.Edge.{Edge}
-use Rattle.primitives.specs.declared.border.Sides.{Sides}
+use Rattle.primitives.specs.declared.border.BorderColours.{BorderColours}
 use Rattle.primitives.specs.declared.kind.GlyphUse.{GlyphUse}
 use Rattle.primitives.specs.declared.kind.Kind.{Kind}
 use Rattle.primitives.specs.declared.kind.Kind.TheVariants as kind
 use Rattle.primitives.specs.declared.entry.Entry.TheVariants as entry
 use Rattle.primitives.specs.PrimitiveModel.{IsGlyphUse, IsKind}
 use Rattle.primitives.specs.Borders.{edge_of, pixels_before, pixels_after, vertical_edge, horizontal_edge, colour_of_side, side_colour, border_coverage}
-use Rattle.primitives.specs.Colours.{resource_of_use, repeated_texel, mask_coverage, glyph_coverage, with_glyph, kind_colour, primitive_colour, covered_colour}
+use Rattle.primitives.specs.Colours.{resource_of_use, repeated_texel, mask_coverage, glyph_use_over, kind_colour, primitive_colour, covered_colour}
 use Rattle.primitives.specs.Moves.{CanShiftKind, shifted_glyph, shifted_glyphs, shifted_kind, shifted_entries}
 use Rattle.primitives.specs.Stacks.{Stack, step, run}
 use Rattle.primitives.specs.Laws.{ShiftedHasColours, ShiftedHasCoveredColours, ShiftedSteps, ShiftedRuns, ShiftedIsVisible}
@@ -50,7 +51,7 @@ vertical_moved b by w x = ap₂ (λ (m n : ℕ). edge_of m n w.left w.right) (be
 horizontal_moved : (b : Bounds) (by : Point) (w : Widths) (y : ℤ) → horizontal_edge (shifted b by) w (y +ℤ by.y) ≡ horizontal_edge b w y
 horizontal_moved b by w y = ap₂ (λ (m n : ℕ). edge_of m n w.top w.bottom) (before_moved b.y0 y by.y) (after_moved b.y1 y by.y)
 
-side_moved : (b : Bounds) (by : Point) (w : Widths) (c : Sides) (x y : ℤ) → side_colour (shifted b by) w c (x +ℤ by.x) (y +ℤ by.y) ≡ side_colour b w c x y
+side_moved : (b : Bounds) (by : Point) (w : Widths) (c : BorderColours) (x y : ℤ) → side_colour (shifted b by) w c (x +ℤ by.x) (y +ℤ by.y) ≡ side_colour b w c x y
 unfolding side_colour
 side_moved b by w c x y = ap₂ (λ (across down : Edge). colour_of_side across down c) (vertical_moved b by w x) (horizontal_moved b by w y)
 
@@ -74,16 +75,15 @@ coverage_moved o by w x y =
 
 -- ---- text
 
-glyph_moved : (store : StoreModel) (pipeline font : ℕ) (g : GlyphUse) (by : Point) (x y : ℤ) → glyph_coverage store pipeline font (shifted_glyph g by) (x +ℤ by.x) (y +ℤ by.y) ≡ glyph_coverage store pipeline font g x y
-glyph_moved store pipeline font g by x y =
-    ap₂ (mask_coverage (resource_of_use g.generation (glyph_at store pipeline font g.glyph))) (distance_moved x g.x by.x) (distance_moved y g.y by.y)
+mask_moved : (mask : Option MaskModel) (at by : Point) (x y : ℤ) → mask_coverage mask ((x +ℤ by.x) -ℤ (at.x +ℤ by.x)) ((y +ℤ by.y) -ℤ (at.y +ℤ by.y)) ≡ mask_coverage mask (x -ℤ at.x) (y -ℤ at.y)
+mask_moved mask at by x y = ap₂ (mask_coverage mask) (distance_moved x at.x by.x) (distance_moved y at.y by.y)
 
 text_moved : (store : StoreModel) (pipeline font : ℕ) (colour : Px) (by : Point) (x y : ℤ) (glyphs : List GlyphUse) (so_far : Px)
-    → fold (with_glyph store pipeline font colour (x +ℤ by.x) (y +ℤ by.y)) so_far (shifted_glyphs glyphs by) ≡ fold (with_glyph store pipeline font colour x y) so_far glyphs
+    → fold (glyph_use_over store pipeline font colour (x +ℤ by.x) (y +ℤ by.y)) so_far (shifted_glyphs glyphs by) ≡ fold (glyph_use_over store pipeline font colour x y) so_far glyphs
 text_moved store pipeline font colour by x y [] so_far = refl
 text_moved store pipeline font colour by x y (g ∷ gs) so_far =
-    ap (λ (n : ℕ). fold (with_glyph store pipeline font colour (x +ℤ by.x) (y +ℤ by.y)) (blended Normal (scaled colour n) so_far) (shifted_glyphs gs by)) (glyph_moved store pipeline font g by x y)
-    ∙ text_moved store pipeline font colour by x y gs (with_glyph store pipeline font colour x y so_far g)
+    ap (λ (n : ℕ). fold (glyph_use_over store pipeline font colour (x +ℤ by.x) (y +ℤ by.y)) (blended Normal (scaled colour n) so_far) (shifted_glyphs gs by)) (mask_moved (resource_of_use g.generation (glyph_at store pipeline font g.glyph)) (record { x = g.x; y = g.y }) by x y)
+    ∙ text_moved store pipeline font colour by x y gs (glyph_use_over store pipeline font colour x y so_far g)
 
 -- ---- primitives
 

@@ -6,10 +6,10 @@ use Rattle.primitives.specs.declared.entry.Entry.{Entry}
 use Rattle.primitives.specs.declared.entry.Entry.TheVariants as entry
 
 -- an entry's own clips, the outermost first
-abbrev pub clips_of : Entry → List Clip
-clips_of (entry.Primitive p) = p.clips
-clips_of (entry.Push opacity mode clips) = clips
-clips_of entry.Pop = []
+abbrev pub entry_clips : Entry → List Clip
+entry_clips (entry.Primitive p) = p.clips
+entry_clips (entry.Push opacity mode clips) = clips
+entry_clips entry.Pop = []
 
 abbrev pub primitive_without_clips : PrimitiveModel → ℕ → PrimitiveModel
 primitive_without_clips p n = record { kind = p.kind; rect = p.rect; clips = drop n p.clips }

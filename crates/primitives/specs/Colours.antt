@@ -2,6 +2,7 @@
 use Rattle.std.specs.Prelude.{ℕ, ◌+◌, ◌%◌, ℤ, pos, ◌-ℤ◌, unsigned_abs, Option, Some, None, List, if◌then◌else◌}
 use Rattle.std.specs.List.{fold}
 use Rattle.wr_geom.specs.Bounds.{Bounds, holds}
+use Rattle.wr_geom.specs.declared.point.Point.{Point}
 use Rattle.blend_rules.specs.declared.colour.Px.{Px}
 use Rattle.blend_rules.specs.declared.mode.Mode.TheVariants.{Normal}
 use Rattle.blend_rules.specs.Colour.{clear, scaled, blended}
@@ -41,17 +42,18 @@ unfoldable pub mask_coverage : Option MaskModel → ℤ → ℤ → ℕ
 mask_coverage None x y = 0
 mask_coverage (Some m) x y = if holds (mask_rect m) x y then mask_byte m (unsigned_abs x) (unsigned_abs y) else 0
 
--- what a glyph's mask covers of the pixel (x, y), of 255
-abbrev pub glyph_coverage : StoreModel → ℕ → ℕ → GlyphUse → ℤ → ℤ → ℕ
-glyph_coverage store pipeline font g x y = mask_coverage (resource_of_use g.generation (glyph_at store pipeline font g.glyph)) (x -ℤ g.x) (y -ℤ g.y)
+-- a colour under a mask whose first corner lies at a point, over what is so far at the pixel (x, y)
+abbrev pub mask_over : Option MaskModel → Point → Px → Px → ℤ → ℤ → Px
+mask_over mask at colour so_far x y = blended Normal (scaled colour (mask_coverage mask (x -ℤ at.x) (y -ℤ at.y))) so_far
 
 -- one glyph more over what is so far: the text's colour under the glyph's mask
-abbrev pub with_glyph : StoreModel → ℕ → ℕ → Px → ℤ → ℤ → Px → GlyphUse → Px
-with_glyph store pipeline font colour x y so_far g = blended Normal (scaled colour (glyph_coverage store pipeline font g x y)) so_far
+abbrev pub glyph_use_over : StoreModel → ℕ → ℕ → Px → ℤ → ℤ → Px → GlyphUse → Px
+glyph_use_over store pipeline font colour x y so_far g =
+    mask_over (resource_of_use g.generation (glyph_at store pipeline font g.glyph)) (record { x = g.x; y = g.y }) colour so_far x y
 
 -- the glyphs in order, from clear
 abbrev pub text_colour : StoreModel → ℕ → ℕ → Px → List GlyphUse → ℤ → ℤ → Px
-text_colour store pipeline font colour glyphs x y = fold (with_glyph store pipeline font colour x y) clear glyphs
+text_colour store pipeline font colour glyphs x y = fold (glyph_use_over store pipeline font colour x y) clear glyphs
 
 -- ---- primitives
 

@@ -8,7 +8,7 @@ use Rattle.image_store.specs.StoreModel.{StoreModel, IsStore}
 use Rattle.primitives.specs.PrimitiveModel.{PrimitiveModel, IsPrimitive}
 use Rattle.primitives.specs.Colours.{primitive_colour, covered_colour, visible_rect}
 use Rattle.primitives.specs.Moves.{shifted_primitive, shifted_entry, shifted_entries}
-use Rattle.primitives.specs.Clipping.{clips_of, without_clips}
+use Rattle.primitives.specs.Clipping.{entry_clips, without_clips}
 use Rattle.primitives.specs.Stacks.{Stack, step, run, balanced, IsRow}
 use Rattle.primitives.specs.Facts.{IsOpaque, IsEntry, IsHidden, IsStack}
 use Rattle.primitives.specs.declared.entry.Entry.{Entry}
@@ -63,7 +63,7 @@ ShiftedIsVisible = (p : PrimitiveModel) (by : Point) (x y : ℤ) → holds (visi
 
 -- an entry without clips that leave all of a point does there what it did
 abbrev pub FullClipsDoNothing : Type 0
-FullClipsDoNothing = (store : StoreModel) (x y : ℤ) (e : Entry) (n : ℕ) (s : Stack) → chain_coverage (take n (clips_of e)) 255 x y ≡ 255 → step store x y (without_clips e n) s ≡ step store x y e s
+FullClipsDoNothing = (store : StoreModel) (x y : ℤ) (e : Entry) (n : ℕ) (s : Stack) → chain_coverage (take n (entry_clips e)) 255 x y ≡ 255 → step store x y (without_clips e n) s ≡ step store x y e s
 
 -- entries run part by part
 abbrev pub RunsInParts : Type 0

@@ -3,9 +3,12 @@
 ghost use Rattle.std.specs.Prelude.{◌≡◌, ◌≤ℤ◌, ◌<ℤ◌, ◌^◌, ◌≤◌, pos, neg_ℤ, IsTrue};
 ghost use Rattle.wr_geom.specs.Bounds.{IsCoordinate, holds};
 ghost use Rattle.wr_geom.specs.Sides.{WidthsFit};
+ghost use Rattle.blend_rules.specs.Colour.{IsPixel};
 ghost use Rattle.display_list.specs.Facts.{IsBorder};
 ghost use Rattle.clip_masks.specs.Corners.{HasPixel};
-ghost use Rattle.primitives.specs.Borders.{is_at_first, edge_of, pixels_before, pixels_after, vertical_edge, horizontal_edge, is_horizontal, colour_of_side, side_colour, border_coverage, border_colour};
+ghost use Rattle.primitives.specs.Borders.{HasPixelColours, is_at_first, edge_of, pixels_before, pixels_after};
+ghost use Rattle.primitives.specs.Borders.{vertical_edge, horizontal_edge, is_horizontal, colour_of_side, side_colour};
+ghost use Rattle.primitives.specs.Borders.{border_coverage, border_colour};
 
 use blend_rules::{Px, scale};
 use clip_masks::Rounded;
@@ -21,13 +24,17 @@ pub(crate) struct Edge {
     pub(crate) width: u16,
 }
 
-/// A border's colours.
+/// The colours of a border's four sides.
 #[derive(Clone, Copy)]
-pub(crate) struct Sides {
-    pub(crate) top: Px,
-    pub(crate) right: Px,
-    pub(crate) bottom: Px,
-    pub(crate) left: Px,
+pub struct BorderColours {
+    /// The colour of the side along the upper edge.
+    pub top: Px,
+    /// The colour of the side along the right edge.
+    pub right: Px,
+    /// The colour of the side along the lower edge.
+    pub bottom: Px,
+    /// The colour of the side along the left edge.
+    pub left: Px,
 }
 
 /// Whether a pixel with so many others before it and after it belongs to the side at the first edge.
@@ -95,7 +102,7 @@ fn is_horizontal(across: Edge, down: Edge) -> bool
 
 /// The colour of the side to which a pixel with these edges belongs.
 #[tactic(auto, unfolding(crate::specs::Borders::colour_of_side))]
-fn colour_of_side(across: Edge, down: Edge, colours: Sides) -> Px
+fn colour_of_side(across: Edge, down: Edge, colours: BorderColours) -> Px
     ensures { result ≡ colour_of_side across down colours }
 {
     if is_horizontal(across, down) {
@@ -144,7 +151,7 @@ fn border_coverage(outer: Rounded, w: Widths, x: i32, y: i32) -> u8
 
 /// The colour of the side that a pixel of the rectangle belongs to.
 #[tactic(auto, unfolding(crate::specs::Borders::side_colour))]
-fn side_colour(rect: Rect, w: Widths, colours: Sides, x: i32, y: i32) -> Px
+fn side_colour(rect: Rect, w: Widths, colours: BorderColours, x: i32, y: i32) -> Px
     requires { HasPixel rect x y }
     ensures { result ≡ side_colour rect w colours x y }
 {
@@ -155,11 +162,28 @@ fn side_colour(rect: Rect, w: Widths, colours: Sides, x: i32, y: i32) -> Px
     )
 }
 
-/// A border's colour at a pixel of its rectangle.
-pub(crate) fn border_colour(
+/// A border's colour at a pixel of its rectangle. It takes no memory.
+pub fn border_colour(
     rect: Rect,
     w: Widths,
-    colours: Sides,
+    colours: BorderColours,
+    radii: Radii,
+    x: i32,
+    y: i32,
+) -> Px
+    requires pixel { HasPixel rect x y }
+    requires border { IsBorder rect w radii }
+    ensures value { result ≡ border_colour rect w colours radii x y }
+    ensures pixel { HasPixelColours colours → IsPixel result }
+{
+    covered_side_colour(rect, w, colours, radii, x, y)
+}
+
+/// The same, without what is known of it.
+fn covered_side_colour(
+    rect: Rect,
+    w: Widths,
+    colours: BorderColours,
     radii: Radii,
     x: i32,
     y: i32,

@@ -7,7 +7,7 @@ ghost use Rattle.primitives.specs.PrimitiveModel.{IsKind};
 ghost use Rattle.primitives.specs.Colours.{kind_colour, primitive_colour, visible_rect};
 ghost use Rattle.primitives.specs.Facts.{IsOpaque};
 
-use crate::border::{Sides, border_colour};
+use crate::border::{BorderColours, border_colour};
 use crate::image::{colour_of_image, is_opaque_image, used_image};
 use crate::text::text_colour;
 use crate::{Kind, Primitive};
@@ -41,7 +41,7 @@ fn kind_colour(kind: &Kind, rect: Rect, store: &Store, x: i32, y: i32) -> Px
             left,
             radii,
         } => {
-            let colours = Sides {
+            let colours = BorderColours {
                 top: *top,
                 right: *right,
                 bottom: *bottom,

@@ -1,5 +1,5 @@
 ghost use Rattle.std.specs.Prelude.{◌≡◌, ◌≤◌, length, IfOk};
-ghost use Rattle.primitives.specs.Clipping.{clips_of, without_clips};
+ghost use Rattle.primitives.specs.Clipping.{entry_clips, without_clips};
 ghost use Rattle.primitives.specs.Moves.{CanShiftEntry, shifted_entry};
 
 use crate::Primitive;
@@ -27,7 +27,7 @@ pub enum Entry {
 impl Entry {
     /// Its own clips, the outermost first.
     pub fn clips(&self) -> &[Clip]
-        ensures { result.now ≡ clips_of self.now }
+        ensures { result.now ≡ entry_clips self.now }
     {
         match self {
             Entry::Primitive(primitive) => primitive.clips(),
@@ -38,7 +38,7 @@ impl Entry {
 
     /// Without its first `count` clips. It takes no memory.
     pub fn without_clips(self, count: usize) -> Entry
-        requires { count ≤ length (clips_of self) }
+        requires { count ≤ length (entry_clips self) }
         ensures { result ≡ without_clips self count }
     {
         match self {

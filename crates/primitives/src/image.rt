@@ -2,6 +2,7 @@
 
 ghost use Rattle.std.specs.Prelude.{◌≡◌, ◌^◌, ◌<◌, ◌↔◌, IsTrue, Some};
 ghost use Rattle.std.specs.Option.{option_copied};
+ghost use Rattle.blend_rules.specs.Colour.{IsPixel};
 ghost use Rattle.clip_masks.specs.Corners.{HasPixel};
 ghost use Rattle.image_store.specs.StoreModel.{image_at};
 ghost use Rattle.primitives.specs.Colours.{resource_of_use, repeated_texel, image_colour};
@@ -9,7 +10,7 @@ ghost use Rattle.primitives.specs.Facts.{IsOpaqueImage};
 
 use crate::border::pixels_before;
 use blend_rules::Px;
-use image_store::{Image, Store};
+use image_store::{Image, Store, know_store};
 use wr_geom::Rect;
 
 /// What a use of an image draws: what is stored now, and nothing where it carries no generation.
@@ -62,6 +63,43 @@ pub(crate) fn colour_of_image(
         None => Px::CLEAR,
         Some(image) => image_colour(image, rect, u, v, x, y),
     }
+}
+
+/// The colour at a pixel of a rectangle in whose first corner lies the texel (u, v) of an image that is repeated on
+/// both axes: clear where no image is stored. It takes no memory.
+pub fn image_colour_at(
+    store: &Store,
+    pipeline: u8,
+    key: u32,
+    rect: Rect,
+    u: u16,
+    v: u16,
+    x: i32,
+    y: i32,
+) -> Px
+    requires { HasPixel rect x y }
+    ensures value { result ≡ image_colour (image_at store.now pipeline key) rect u v x y }
+    ensures pixel { IsPixel result }
+{
+    know_store(store);
+    stored_image_colour(store, pipeline, key, rect, u, v, x, y)
+}
+
+/// The same, without what is known of it.
+fn stored_image_colour(
+    store: &Store,
+    pipeline: u8,
+    key: u32,
+    rect: Rect,
+    u: u16,
+    v: u16,
+    x: i32,
+    y: i32,
+) -> Px
+    requires { HasPixel rect x y }
+    ensures { result ≡ image_colour (image_at store.now pipeline key) rect u v x y }
+{
+    colour_of_image(store.image(pipeline, key), rect, u, v, x, y)
 }
 
 /// Whether there is an image, and each of its texels is opaque.

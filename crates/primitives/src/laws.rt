@@ -10,7 +10,8 @@ ghost use Rattle.primitives.specs.declared.kind.GlyphUse.{GlyphUse as GlyphValue
 ghost use Rattle.primitives.specs.declared.kind.Kind.{Kind as KindValue};
 ghost use Rattle.primitives.specs.Laws.{ColourIsPixel, CoveredIsPixel, ClearWhereNotVisible, OpaqueIsFull, OpaqueReplaces};
 ghost use Rattle.primitives.specs.Laws.{ShiftedHasColours, ShiftedHasCoveredColours, ShiftedSteps, ShiftedRuns, ShiftedIsVisible};
-ghost use Rattle.primitives.specs.Laws.{FullClipsDoNothing, RunsInParts, BalancedLeavesGroups, BalancedKnowsTopAlone, RowsAreBalanced, RunKeepsPixels, HiddenLeavesStack, HiddenListLeavesStack};
+ghost use Rattle.primitives.specs.Laws.{FullClipsDoNothing, RunsInParts, BalancedLeavesGroups, BalancedKnowsTopAlone};
+ghost use Rattle.primitives.specs.Laws.{RowsAreBalanced, RunKeepsPixels, HiddenLeavesStack, HiddenListLeavesStack};
 
 use crate::{Entry, GlyphUse, Kind, Primitive};
 use blend_rules::Mode;

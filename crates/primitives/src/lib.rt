@@ -14,8 +14,11 @@ mod lists;
 mod primitive;
 mod text;
 
+pub use border::{BorderColours, border_colour};
 pub use colour::{colour_at, is_opaque, visible};
 pub use entry::{Entry, Top};
+pub use image::image_colour_at;
 pub use kind::{GlyphUse, Kind};
 pub use laws::{colour_laws, entry_order_laws, know_entry, run_laws, shift_laws};
 pub use primitive::Primitive;
+pub use text::glyph_over;

@@ -2,13 +2,14 @@
 
 ghost use Rattle.std.specs.Prelude.{◌≡◌, ◌-ℤ◌, Some};
 ghost use Rattle.std.specs.Option.{option_copied};
-ghost use Rattle.blend_rules.specs.Colour.{IsPremultiplied};
+ghost use Rattle.blend_rules.specs.Colour.{IsPremultiplied, IsPixel};
 ghost use Rattle.image_store.specs.StoreModel.{glyph_at};
-ghost use Rattle.primitives.specs.Colours.{resource_of_use, mask_coverage, glyph_coverage, with_glyph, text_colour};
+ghost use Rattle.primitives.specs.Colours.{resource_of_use, mask_coverage, mask_over, glyph_use_over, text_colour};
 
 use crate::GlyphUse;
 use blend_rules::{Mode, Px, blend, scale};
-use image_store::{Mask, Store};
+use image_store::{Mask, Store, know_store};
+use wr_geom::Point;
 
 /// What a use of a mask draws: what is stored now, and nothing where it carries no generation.
 fn used_mask(store: &Store, pipeline: u8, font: u16, g: GlyphUse) -> Option<&Mask>
@@ -52,16 +53,61 @@ fn distance(z: i32, from: i32) -> i64
     z as i64 - from as i64
 }
 
-/// What a glyph's mask covers of a pixel, of 255.
-fn glyph_coverage(store: &Store, pipeline: u8, font: u16, g: GlyphUse, x: i32, y: i32) -> u8
-    ensures { result ≡ glyph_coverage store.now pipeline font g x y }
+/// A colour under a mask whose first corner lies at a point, over what is so far at a pixel.
+fn mask_over(mask: Option<&Mask>, at: Point, colour: Px, so_far: Px, x: i32, y: i32) -> Px
+    requires colour { IsPremultiplied colour }
+    requires so_far { IsPremultiplied so_far }
+    ensures value { result ≡ mask_over (option_copied mask.entry) at colour so_far x y }
+    ensures premultiplied { IsPremultiplied result }
 {
-    let mask = used_mask(store, pipeline, font, g);
-    coverage_of(mask, distance(x, g.x), distance(y, g.y))
+    let coverage = coverage_of(mask, distance(x, at.x), distance(y, at.y));
+    blend(Mode::Normal, scale(colour, coverage), so_far)
+}
+
+/// One stored glyph in a colour, over what is so far at the pixel (x, y): the first corner of its mask lies at `at`.
+/// Where no such glyph is stored, nothing is added. It takes no memory.
+pub fn glyph_over(
+    store: &Store,
+    pipeline: u8,
+    font: u16,
+    colour: Px,
+    glyph: u16,
+    at: Point,
+    so_far: Px,
+    x: i32,
+    y: i32,
+) -> Px
+    requires colour { IsPixel colour }
+    requires so_far { IsPixel so_far }
+    ensures value { result ≡ mask_over (glyph_at store.now pipeline font glyph) at colour so_far x y }
+    ensures pixel { IsPixel result }
+{
+    know_store(store);
+    stored_glyph_over(store, pipeline, font, colour, glyph, at, so_far, x, y)
+}
+
+/// The same, without what is known of it.
+fn stored_glyph_over(
+    store: &Store,
+    pipeline: u8,
+    font: u16,
+    colour: Px,
+    glyph: u16,
+    at: Point,
+    so_far: Px,
+    x: i32,
+    y: i32,
+) -> Px
+    requires colour { IsPremultiplied colour }
+    requires so_far { IsPremultiplied so_far }
+    ensures { result ≡ mask_over (glyph_at store.now pipeline font glyph) at colour so_far x y }
+{
+    let mask = store.glyph(pipeline, font, glyph);
+    mask_over(mask, at, colour, so_far, x, y)
 }
 
 /// One glyph more over what is so far.
-fn with_glyph(
+fn glyph_use_over(
     store: &Store,
     pipeline: u8,
     font: u16,
@@ -73,11 +119,11 @@ fn with_glyph(
 ) -> Px
     requires colour { IsPremultiplied colour }
     requires so_far { IsPremultiplied so_far }
-    ensures value { result ≡ with_glyph store.now pipeline font colour x y so_far g }
+    ensures value { result ≡ glyph_use_over store.now pipeline font colour x y so_far g }
     ensures premultiplied { IsPremultiplied result }
 {
-    let coverage = glyph_coverage(store, pipeline, font, g, x, y);
-    blend(Mode::Normal, scale(colour, coverage), so_far)
+    let mask = used_mask(store, pipeline, font, g);
+    mask_over(mask, Point { x: g.x, y: g.y }, colour, so_far, x, y)
 }
 
 /// A text's colour at a pixel.
@@ -95,7 +141,7 @@ pub(crate) fn text_colour(
 {
     let mut so_far = Px::CLEAR;
     for g in glyphs {
-        so_far = with_glyph(store, pipeline, font, colour, x, y, so_far, *g);
+        so_far = glyph_use_over(store, pipeline, font, colour, x, y, so_far, *g);
     }
     so_far
 }
