@@ -3,7 +3,7 @@
 use super::made::{BLUE, RED, four, grey, plain, rect};
 use blend_rules::Px;
 use image_store::Store;
-use primitives::{Kind, Primitive, is_opaque};
+use primitives::{BorderColours, Kind, Primitive, border_colour, is_opaque};
 use std::alloc::Global;
 use std::test::Fail;
 use wr_geom::{Radii, Widths};
@@ -90,5 +90,19 @@ fn widths_and_radii_must_fit(rt: HostRuntime) -> Result<(), Fail> {
     };
     let round = sides(WIDTHS, radii);
     assert!(rt; !wide.fits(place) && !round.fits(place));
+    Ok(())
+}
+
+#[test]
+fn a_pixel_of_a_border_has_a_colour(rt: HostRuntime) -> Result<(), Fail> {
+    let place = rect(0, 0, 4, 4)?;
+    let colours = BorderColours {
+        top: RED,
+        right: RED,
+        bottom: RED,
+        left: BLUE,
+    };
+    let colour = border_colour(place, WIDTHS, colours, Radii::SQUARE, 0, 1);
+    assert_eq!(rt; colour, BLUE);
     Ok(())
 }

@@ -2,7 +2,7 @@
 
 use super::made::{four, grey, plain, rect, stored_images};
 use blend_rules::Px;
-use primitives::{Kind, Primitive, is_opaque};
+use primitives::{Kind, Primitive, image_colour_at, is_opaque};
 use std::alloc::Global;
 use std::test::Fail;
 
@@ -46,5 +46,18 @@ fn an_opaque_image_is_opaque_where_it_is_used(rt: HostRuntime) -> Result<(), Fai
     let store = stored_images(rt.alloc())?;
     assert!(rt; is_opaque(&used, &store));
     assert!(rt; !is_opaque(&unset, &store) && !is_opaque(&thin, &store));
+    Ok(())
+}
+
+#[test]
+fn a_stored_image_has_colours(rt: HostRuntime) -> Result<(), Fail> {
+    let store = stored_images(rt.alloc())?;
+    let place = rect(-1, -1, 3, 3)?;
+    let colours = [
+        image_colour_at(&store, 1, 9, place, 3, 4, -1, -1),
+        image_colour_at(&store, 1, 9, place, 3, 4, 0, 2),
+        image_colour_at(&store, 1, 7, place, 3, 4, 0, 2),
+    ];
+    assert_eq!(rt; colours, [grey(2), grey(3), Px::CLEAR]);
     Ok(())
 }

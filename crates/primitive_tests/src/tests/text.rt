@@ -1,11 +1,12 @@
 //! Glyphs of a text.
 
-use super::made::{four, grey, plain, rect, stored_glyphs};
+use super::made::{RED, four, grey, plain, rect, stored_glyphs};
 use blend_rules::Px;
 use containers::Sequence;
-use primitives::{GlyphUse, Kind, Primitive, is_opaque};
+use primitives::{GlyphUse, Kind, Primitive, glyph_over, is_opaque};
 use std::alloc::Global;
 use std::test::Fail;
+use wr_geom::Point;
 
 fn glyph(glyph: u16, x: i32, generation: Option<u64>) -> GlyphUse {
     GlyphUse {
@@ -59,5 +60,25 @@ fn a_glyph_without_a_generation_is_not_drawn(rt: HostRuntime) -> Result<(), Fail
         four(&p, &store, 0, 0),
         [Px::CLEAR, Px::CLEAR, Px::CLEAR, grey(128)]
     );
+    Ok(())
+}
+
+/// Red of this alpha.
+fn red(alpha: u8) -> Px {
+    Px {
+        r: alpha,
+        a: alpha,
+        ..Px::CLEAR
+    }
+}
+
+#[test]
+fn stored_glyphs_are_blended_one_by_one(rt: HostRuntime) -> Result<(), Fail> {
+    let store = stored_glyphs(rt.alloc())?;
+    let at = Point { x: 2, y: 0 };
+    let first = glyph_over(&store, 1, 3, RED, 5, at, Px::CLEAR, 2, 0);
+    let second = glyph_over(&store, 1, 3, RED, 6, at, first, 2, 0);
+    let third = glyph_over(&store, 1, 3, RED, 7, at, second, 2, 0);
+    assert_eq!(rt; [first, second, third], [red(1), red(1), red(129)]);
     Ok(())
 }
