@@ -8,7 +8,7 @@ use Rattle.display_list.specs.ListModel.{ListModel}
 use Rattle.display_list.specs.declared.node.ChainDef.{ChainDef}
 use Rattle.display_list.specs.Facts.{IsList}
 use Rattle.display_list.specs.Levels.{inherited, with_total, totals_of}
-use Rattle.list_summary.specs.Shown.{clips_of}
+use Rattle.list_summary.specs.Shown.{chain_clip_count}
 
 -- what stands is kept
 kept : (counts : List ℕ) (cs : List ChainDef) → (more : List ℕ) × (fold with_total counts cs ≡ counts ++ more)
@@ -46,6 +46,6 @@ next_is counts cs k c lt e h =
     first_is counts c (drop (suc k) cs) (subst (λ (ds : List ChainDef). AreFew (fold with_total counts ds)) (drop-cons cs k c lt ∙ ap (λ (d : ChainDef). d ∷ drop (suc k) cs) (sym e)) h)
 
 -- a chain's clips by the table, under both names
-pub clips_inherited : (counts : List ℕ) (parent : Option ℕ) → clips_of counts parent ≡ inherited counts parent
+pub clips_inherited : (counts : List ℕ) (parent : Option ℕ) → chain_clip_count counts parent ≡ inherited counts parent
 clips_inherited counts None = refl
 clips_inherited counts (Some chain) = refl

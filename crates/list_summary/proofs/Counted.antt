@@ -6,8 +6,8 @@ use Rattle.display_list.specs.declared.item.Item.{Item}
 use Rattle.display_list.specs.ListModel.{ListModel}
 use Rattle.display_list.specs.Levels.{totals_of}
 use Rattle.display_list.specs.Trees.{Trees, told, tree_of, trees_of, tree_nesting, nesting_of}
-use Rattle.list_summary.specs.declared.frame.Frame.{Frame}
-use Rattle.list_summary.specs.Frames.{SummaryModel, summary_of, trees_frames}
+use Rattle.list_summary.specs.declared.iframe.Iframe.{Iframe}
+use Rattle.list_summary.specs.Iframes.{SummaryModel, summary_of, trees_iframes}
 use Rattle.list_summary.specs.declared.totals.Totals.{Totals}
 use Rattle.list_summary.specs.Shown.{Shown, alone, within, nobody, shown_trees}
 use Rattle.list_summary.specs.Totals.{single, both, and_shown, no_totals, totals_of_shown}
@@ -66,9 +66,9 @@ item_nesting (j ∷ is) (suc k) i lt e = omega (arith, item_nesting is k i (omeg
 
 -- ---- the whole list
 
-pub summed : (l : ListModel) (own : Totals) (frames : List Frame) (counts : List ℕ) (ts : Trees) → counts ≡ totals_of l.chains → told l.items ≡ ts
-    → own ≡ and_shown no_totals (map (within 0) (shown_trees nobody counts ts)) → frames ≡ trees_frames counts 0 ts
-    → (let s : SummaryModel = record { own = own; frames = frames } in s) ≡ summary_of l
-summed l own frames counts ts e f g h =
+pub summed : (l : ListModel) (own : Totals) (iframes : List Iframe) (counts : List ℕ) (ts : Trees) → counts ≡ totals_of l.chains → told l.items ≡ ts
+    → own ≡ and_shown no_totals (map (within 0) (shown_trees nobody counts ts)) → iframes ≡ trees_iframes counts 0 ts
+    → (let s : SummaryModel = record { own = own; iframes = iframes } in s) ≡ summary_of l
+summed l own iframes counts ts e f g h =
     let k : own ≡ totals_of_shown (shown_trees nobody (totals_of l.chains) (told l.items)) = g ∙ all_counted (shown_trees nobody counts ts) ∙ rw (e, f) refl in
     rw (k, h, e, f) refl

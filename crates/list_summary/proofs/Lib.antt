@@ -1,5 +1,5 @@
 pub mod Caps
 pub mod Sums
 pub mod Counted
-pub mod FrameSums
+pub mod IframeSums
 pub mod ChainCounts

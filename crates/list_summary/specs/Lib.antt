@@ -1,4 +1,4 @@
 pub mod Shown
 pub mod Totals
-pub mod Frames
+pub mod Iframes
 pub mod Laws

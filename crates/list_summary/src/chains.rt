@@ -3,15 +3,15 @@
 ghost use Rattle.std.specs.Prelude.{◌≡◌, ◌≤◌, ◌<◌, IfOk, length, All};
 ghost use Rattle.display_list.specs.Levels.{inherited, totals_of};
 ghost use Rattle.display_list.specs.Facts.{IsList};
-ghost use Rattle.list_summary.specs.Shown.{clips_of};
+ghost use Rattle.list_summary.specs.Shown.{chain_clip_count};
 
 use display_list::List;
 use std::alloc::Global;
 use wr_geom::NoMemory;
 
 /// How many clips a chain has with its parents', by a table of that.
-pub(crate) fn clips_of(counts: &[u8], chain: Option<u16>) -> u8
-    ensures { result ≡ clips_of counts.now chain }
+pub(crate) fn chain_clip_count(counts: &[u8], chain: Option<u16>) -> u8
+    ensures { result ≡ chain_clip_count counts.now chain }
 {
     match chain {
         None => 0,
@@ -25,7 +25,7 @@ pub(crate) fn chain_counts(alloc: Global, list: &List) -> Result<Vec<u8>, NoMemo
 {
     let mut counts = Vec::new(alloc);
     for chain in list.chains() {
-        let inherited = clips_of(&counts, chain.parent);
+        let inherited = chain_clip_count(&counts, chain.parent);
         counts.push(inherited + chain.clips.len() as u8)?;
     }
     Ok(counts)

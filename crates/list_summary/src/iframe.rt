@@ -2,7 +2,7 @@
 
 /// An Iframe where it stands in its list.
 #[derive(Clone, Copy, Debug, PartialEq, Eq)]
-pub struct Frame {
+pub struct Iframe {
     /// The pipeline that it names.
     pub pipeline: u8,
     /// How many contexts of the list it stands in, at most 64.

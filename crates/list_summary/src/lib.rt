@@ -4,13 +4,13 @@
 
 mod chains;
 mod counting;
-mod frame;
+mod iframe;
 mod laws;
 mod limits;
 mod summary;
 mod totals;
 
-pub use frame::Frame;
+pub use iframe::Iframe;
 pub use laws::summary_laws;
 pub use limits::COUNT_CAP;
 pub use summary::{Summary, summarise};

@@ -1,11 +1,11 @@
 //! What a list adds to a scene.
 
 ghost use Rattle.std.specs.Prelude.{◌≡◌, IfOk};
-ghost use Rattle.list_summary.specs.Frames.{summary_of};
+ghost use Rattle.list_summary.specs.Iframes.{summary_of};
 
 use crate::chains::chain_counts;
 use crate::counting::count_items;
-use crate::{Frame, Totals};
+use crate::{Iframe, Totals};
 use display_list::{List, tree_laws};
 use std::alloc::Global;
 use std::marker::Model;
@@ -15,15 +15,15 @@ use wr_geom::NoMemory;
 #[derive(Debug, Drop)]
 pub struct Summary {
     own: Totals,
-    frames: Vec<Frame>,
+    iframes: Vec<Iframe>,
 }
 
 impl Model for Summary {
-    ghost use Rattle.list_summary.specs.Frames.{SummaryModel};
+    ghost use Rattle.list_summary.specs.Iframes.{SummaryModel};
 
     ghost Value = { SummaryModel };
 
-    ghost view = { λ s. record { own = s.own; frames = s.frames.items } };
+    ghost view = { λ s. record { own = s.own; iframes = s.iframes.items } };
 }
 
 impl Summary {
@@ -35,10 +35,10 @@ impl Summary {
     }
 
     /// Its Iframes, back to front.
-    pub fn frames(&self) -> &[Frame]
-        ensures { result.now ≡ self.now.frames }
+    pub fn iframes(&self) -> &[Iframe]
+        ensures { result.now ≡ self.now.iframes }
     {
-        self.frames.as_slice()
+        self.iframes.as_slice()
     }
 }
 
@@ -48,7 +48,7 @@ pub fn summarise(alloc: Global, list: &List) -> Result<Summary, NoMemory>
 {
     tree_laws();
     let counts = chain_counts(alloc, list)?;
-    let mut frames = Vec::new(alloc);
-    let own = count_items(list.items(), &counts, 0, Totals::NONE, &mut frames)?;
-    Ok(Summary { own, frames })
+    let mut iframes = Vec::new(alloc);
+    let own = count_items(list.items(), &counts, 0, Totals::NONE, &mut iframes)?;
+    Ok(Summary { own, iframes })
 }

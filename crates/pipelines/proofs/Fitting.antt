@@ -10,7 +10,7 @@ use Rattle.std.proofs.lemmas.Option.{none-some, same_Some}
 use Rattle.wr_geom.specs.declared.no_memory.NoMemory.{NoMemory}
 use Rattle.display_list.specs.ListModel.{ListModel}
 use Rattle.pipelines.specs.Listed.{ListedModel}
-use Rattle.pipelines.specs.Table.{PipelineMap, or_blank, pipeline_at, list_of, IsListOf, AreFit}
+use Rattle.pipelines.specs.Table.{PipelineMap, or_blank, pipeline_at, listed_list, IsListOf, AreFit}
 use Rattle.pipelines.specs.Changes.{with_list, with_moves, with_pipeline}
 use Rattle.pipelines.specs.declared.pipeline.Pipeline.{Pipeline}
 use Rattle.spatial_tree.specs.Moves.{MovesModel}
@@ -41,7 +41,7 @@ written m after p k has new change = entry_written m after p k has new change
 
 -- the list of what stands in an entry
 abbrev list_in : Option Pipeline → Option ListModel
-list_in o = list_of (or_blank o).listed
+list_in o = listed_list (or_blank o).listed
 
 pub fit_same : (m n : PipelineMap) → n ≡ m → AreFit m → AreFit n
 fit_same m n e h = subst AreFit (sym e) h
@@ -55,11 +55,11 @@ by_number : (p q : ℕ) (b : Bool) → eq_by_cmp nat_cmp q p ≡ b → (q == p) 
 by_number p q b e = sym (unsigned_tied q p) ∙ e
 
 fit_put : (m : PipelineMap) (p : ℕ) (has : Pipeline) (q : ℕ) (l : ListModel) (b : Bool) → AreFit m
-    → ((k : ListModel) → list_of has.listed ≡ Some k → IsListOf p k) → eq_by_cmp nat_cmp q p ≡ b → list_in (cond b (Some has) (map.get m q)) ≡ Some l → IsListOf q l
+    → ((k : ListModel) → listed_list has.listed ≡ Some k → IsListOf p k) → eq_by_cmp nat_cmp q p ≡ b → list_in (cond b (Some has) (map.get m q)) ≡ Some l → IsListOf q l
 fit_put m p has q l true fit here e h = subst (λ (i : ℕ). IsListOf i l) (sym (eqb-true q p (by_number p q true e))) (here l h)
 fit_put m p has q l false fit here e h = fit.each q l h
 
-pub fit_inserted : (m : PipelineMap) (p : ℕ) (has : Pipeline) → AreFit m → ((k : ListModel) → list_of has.listed ≡ Some k → IsListOf p k) → AreFit (map.insert m p has)
+pub fit_inserted : (m : PipelineMap) (p : ℕ) (has : Pipeline) → AreFit m → ((k : ListModel) → listed_list has.listed ≡ Some k → IsListOf p k) → AreFit (map.insert m p has)
 fit_inserted m p has fit here = record {
   each = λ q l h. fit_put m p has q l (eq_by_cmp nat_cmp q p) fit here refl (sym (ap list_in (get-insert nat_cmp_total m p has q)) ∙ h);
 }

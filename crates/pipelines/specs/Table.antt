@@ -26,12 +26,12 @@ abbrev pub pipeline_at : PipelineMap → ℕ → Pipeline
 pipeline_at pipelines p = or_blank (map.get pipelines p)
 
 -- a pipeline's list, where it has one
-abbrev pub list_of : Option ListedModel → Option ListModel
-list_of None = None
-list_of (Some listed) = Some listed.list
+abbrev pub listed_list : Option ListedModel → Option ListModel
+listed_list None = None
+listed_list (Some listed) = Some listed.list
 
-abbrev pub list_at : PipelineMap → ℕ → Option ListModel
-list_at pipelines p = list_of (pipeline_at pipelines p).listed
+abbrev pub pipeline_list : PipelineMap → ℕ → Option ListModel
+pipeline_list pipelines p = listed_list (pipeline_at pipelines p).listed
 
 -- it meets the checks of lists, and names greater pipelines than its own
 pub record IsListOf (p : ℕ) (l : ListModel) : Type 0 where
@@ -40,4 +40,4 @@ pub record IsListOf (p : ℕ) (l : ListModel) : Type 0 where
 
 -- each pipeline's list fits it
 pub record AreFit (pipelines : PipelineMap) : Type 0 where
-  pub each : (p : ℕ) (l : ListModel) → list_at pipelines p ≡ Some l → IsListOf p l
+  pub each : (p : ℕ) (l : ListModel) → pipeline_list pipelines p ≡ Some l → IsListOf p l

@@ -1,7 +1,7 @@
 //! A list with its epoch.
 
 ghost use Rattle.std.specs.Prelude.{◌≡◌, IfOk};
-ghost use Rattle.list_summary.specs.Frames.{summary_of};
+ghost use Rattle.list_summary.specs.Iframes.{summary_of};
 
 use display_list::List;
 use list_summary::{Summary, summarise};
@@ -20,7 +20,7 @@ struct CountedList {
 impl Model for CountedList {
     ghost use Rattle.std.specs.Prelude.{◌≡◌};
     ghost use Rattle.display_list.specs.ListModel.{ListModel};
-    ghost use Rattle.list_summary.specs.Frames.{summary_of};
+    ghost use Rattle.list_summary.specs.Iframes.{summary_of};
 
     ghost Value = { ListModel };
 

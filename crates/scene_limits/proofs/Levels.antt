@@ -4,36 +4,36 @@ use Rattle.std.proofs.lemmas.Bool.{cases_lt, eq-eqb}
 use Rattle.std.proofs.lemmas.List.{get_or-set_same, get_or-set_other}
 use Rattle.display_list.specs.ListModel.{ListModel}
 use Rattle.list_summary.specs.declared.totals.Totals.{Totals}
-use Rattle.list_summary.specs.declared.frame.Frame.{Frame}
+use Rattle.list_summary.specs.declared.iframe.Iframe.{Iframe}
 use Rattle.list_summary.specs.Shown.{Shown}
 use Rattle.list_summary.specs.Totals.{both, no_totals, totals_of_shown}
-use Rattle.list_summary.specs.Frames.{framed, with_frames, summary_of}
+use Rattle.list_summary.specs.Iframes.{iframe_totals, with_iframes, summary_of}
 use Rattle.list_summary.proofs.Sums.{none_totals}
-use Rattle.list_summary.proofs.FrameSums.{summaries_tell}
-use Rattle.pipelines.specs.Table.{PipelineMap, list_at, AreFit}
-use Rattle.scene_limits.specs.Drawn.{AreReached, is_marked, frames_of, have_frame_of, names}
+use Rattle.list_summary.proofs.IframeSums.{summaries_tell}
+use Rattle.pipelines.specs.Table.{PipelineMap, pipeline_list, AreFit}
+use Rattle.scene_limits.specs.Drawn.{AreReached, is_marked, iframes_of, have_iframe_of, names}
 use Rattle.scene_limits.specs.Expanded.{shown_list, expanded, list_totals, totals_in}
-use Rattle.scene_limits.proofs.Frames.{or-true, names_above}
+use Rattle.scene_limits.proofs.Iframes.{or-true, names_above}
 
 -- ---- what agrees where it is named
 
-abbrev pub AgreeAt : {X : Type 0} → (ℕ → X) → (ℕ → X) → List Frame → Type 0
-AgreeAt f g fs = (q : ℕ) → have_frame_of q fs ≡ true → f q ≡ g q
+abbrev pub AgreeAt : {X : Type 0} → (ℕ → X) → (ℕ → X) → List Iframe → Type 0
+AgreeAt f g fs = (q : ℕ) → have_iframe_of q fs ≡ true → f q ≡ g q
 
-pub agree_head : {X : Type 0} (f g : ℕ → X) (a : Frame) (fs : List Frame) → AgreeAt f g (a ∷ fs) → f a.pipeline ≡ g a.pipeline
-agree_head f g a fs h = h a.pipeline (ap (λ (b : Bool). b || have_frame_of a.pipeline fs) (eq-eqb a.pipeline a.pipeline refl))
+pub agree_head : {X : Type 0} (f g : ℕ → X) (a : Iframe) (fs : List Iframe) → AgreeAt f g (a ∷ fs) → f a.pipeline ≡ g a.pipeline
+agree_head f g a fs h = h a.pipeline (ap (λ (b : Bool). b || have_iframe_of a.pipeline fs) (eq-eqb a.pipeline a.pipeline refl))
 
-pub agree_tail : {X : Type 0} (f g : ℕ → X) (a : Frame) (fs : List Frame) → AgreeAt f g (a ∷ fs) → AgreeAt f g fs
+pub agree_tail : {X : Type 0} (f g : ℕ → X) (a : Iframe) (fs : List Iframe) → AgreeAt f g (a ∷ fs) → AgreeAt f g fs
 agree_tail f g a fs h q k = h q (ap (λ (b : Bool). (a.pipeline == q) || b) k ∙ or-true (a.pipeline == q))
 
-same_sums : (f g : ℕ → Totals) (fs : List Frame) (sum : Totals) → AgreeAt f g fs → with_frames f fs sum ≡ with_frames g fs sum
+same_sums : (f g : ℕ → Totals) (fs : List Iframe) (sum : Totals) → AgreeAt f g fs → with_iframes f fs sum ≡ with_iframes g fs sum
 same_sums f g [] sum h = refl
 same_sums f g (a ∷ fs) sum h =
-    ap (λ (t : Totals). with_frames f fs (both sum (framed a t))) (agree_head f g a fs h) ∙ same_sums f g fs (both sum (framed a (g a.pipeline))) (agree_tail f g a fs h)
+    ap (λ (t : Totals). with_iframes f fs (both sum (iframe_totals a t))) (agree_head f g a fs h) ∙ same_sums f g fs (both sum (iframe_totals a (g a.pipeline))) (agree_tail f g a fs h)
 
-same_list_totals : (f g : ℕ → Totals) (o : Option ListModel) → AgreeAt f g (frames_of o) → list_totals f o ≡ list_totals g o
+same_list_totals : (f g : ℕ → Totals) (o : Option ListModel) → AgreeAt f g (iframes_of o) → list_totals f o ≡ list_totals g o
 same_list_totals f g None h = refl
-same_list_totals f g (Some l) h = same_sums f g (summary_of l).frames (summary_of l).own h
+same_list_totals f g (Some l) h = same_sums f g (summary_of l).iframes (summary_of l).own h
 
 -- the totals of what a list stands for
 pub list_totals_are : (below : ℕ → List Shown) (o : Option ListModel) → list_totals (λ q. totals_of_shown (below q)) o ≡ totals_of_shown (shown_list below o)
@@ -58,17 +58,17 @@ reached_above ps marks p q fit are lt on name =
     (above.0, omega arith, are.named p q lt on name)
 
 level : (marks : List Bool) (m : ℕ) (ps : PipelineMap) (p : ℕ) (t : Totals) (table : List Totals) → AreFit ps → AreReached marks ps → p < 64 → is_marked marks p ≡ true → 64 ≤ m + p
-    → t ≡ list_totals (totals_in table) (list_at ps p) → IsTable (is_marked marks) table ps (p + 1) → t ≡ totals_of_shown (expanded m ps p)
+    → t ≡ list_totals (totals_in table) (pipeline_list ps p) → IsTable (is_marked marks) table ps (p + 1) → t ≡ totals_of_shown (expanded m ps p)
 unfolding expanded
 level marks zero ps p t table fit are lt on le is_t was = absurd (omega arith)
 level marks (suc m) ps p t table fit are lt on le is_t was =
     is_t
-    ∙ same_list_totals (totals_in table) (λ q. totals_of_shown (expanded m ps q)) (list_at ps p)
+    ∙ same_list_totals (totals_in table) (λ q. totals_of_shown (expanded m ps q)) (pipeline_list ps p)
     (λ q name. let k = reached_above ps marks p q fit are lt on name in let up : p < q = k.0 in was q (omega arith) k.1 k.2 m (omega arith))
-    ∙ list_totals_are (expanded m ps) (list_at ps p)
+    ∙ list_totals_are (expanded m ps) (pipeline_list ps p)
 
 pub table_grows : (marks : List Bool) (ps : PipelineMap) (p high : ℕ) (t : Totals) (table : List Totals) → AreFit ps → AreReached marks ps → p < 64 → is_marked marks p ≡ true
-    → length table ≡ 64 → high ≡ p + 1 → t ≡ list_totals (totals_in table) (list_at ps p) → IsTable (is_marked marks) table ps high → IsTable (is_marked marks) (set table p t) ps p
+    → length table ≡ 64 → high ≡ p + 1 → t ≡ list_totals (totals_in table) (pipeline_list ps p) → IsTable (is_marked marks) table ps high → IsTable (is_marked marks) (set table p t) ps p
 table_grows marks ps p high t table fit are lt on size e is_t was q le low here m h =
     elim (cases_lt p q) [
       | inl k ↦ get_or-set_other table p q t no_totals (λ (e : q ≡ p). absurd (omega arith)) ∙ was q (omega arith) low here m h

@@ -1,6 +1,6 @@
 pub mod Spans
 pub mod Refusals
-pub mod Frames
+pub mod Iframes
 pub mod Walks
 pub mod Marking
 pub mod Levels

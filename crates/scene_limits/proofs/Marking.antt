@@ -6,7 +6,7 @@ use Rattle.std.proofs.lemmas.Bool.{eq-eqb, ne_eqb, cases_eq, cases_lt, and_from,
 use Rattle.std.proofs.lemmas.List.{get_or-set_same, get_or-set_other, get_or_past, set_past, get_or-replicate, get_or_default}
 use Rattle.pipelines.specs.Table.{PipelineMap, AreFit}
 use Rattle.scene_limits.specs.Drawn.{is_marked, is_drawn, has_list, names, AreReached, AreDrawn, IsDrawn, root, named}
-use Rattle.scene_limits.proofs.Frames.{or-true, names_above, namer_listed}
+use Rattle.scene_limits.proofs.Iframes.{or-true, names_above, namer_listed}
 
 and-false : (b : Bool) → (b && false) ≡ false
 and-false true = refl

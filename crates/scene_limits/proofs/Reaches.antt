@@ -10,18 +10,18 @@ use Rattle.wr_geom.specs.Points.{point_sum}
 use Rattle.wr_geom.specs.declared.point.Point.{Point}
 use Rattle.display_list.specs.declared.node.Node.{Node}
 use Rattle.display_list.specs.ListModel.{ListModel}
-use Rattle.list_summary.specs.declared.frame.Frame.{Frame}
-use Rattle.list_summary.specs.Frames.{summary_of}
-use Rattle.pipelines.specs.Table.{PipelineMap, list_at, pipeline_at, IsListOf, AreFit}
+use Rattle.list_summary.specs.declared.iframe.Iframe.{Iframe}
+use Rattle.list_summary.specs.Iframes.{summary_of}
+use Rattle.pipelines.specs.Table.{PipelineMap, pipeline_list, pipeline_at, IsListOf, AreFit}
 use Rattle.spatial_tree.specs.Moves.{MovesModel}
 use Rattle.spatial_tree.specs.Offsets.{offset_of, offsets_of}
 use Rattle.spatial_tree.proofs.Places.{offset-root, offset-moved, table-has}
 use Rattle.scene_limits.specs.declared.room.Room.{Room}
-use Rattle.scene_limits.specs.Drawn.{AreReached, is_marked, frames_of}
+use Rattle.scene_limits.specs.Drawn.{AreReached, is_marked, iframes_of}
 use Rattle.scene_limits.specs.Limits.{is_point_in_reach, are_in_reach}
-use Rattle.scene_limits.specs.Places.{zero_point, frame_corner, frame_origin, list_places, node_places}
-use Rattle.scene_limits.specs.Rooms.{room_has, maybe_has, rooms_have, nodes_reach, frame_shift, frame_reaches, list_reaches, IsRoomOf}
-use Rattle.scene_limits.proofs.Frames.{AreFrames, list_frames}
+use Rattle.scene_limits.specs.Places.{zero_point, iframe_corner, iframe_origin, list_places, node_places}
+use Rattle.scene_limits.specs.Rooms.{room_has, maybe_has, rooms_have, nodes_reach, iframe_shift, iframe_reaches, list_reaches, IsRoomOf}
+use Rattle.scene_limits.proofs.Iframes.{AreIframes, list_iframes}
 use Rattle.scene_limits.proofs.Levels.{AgreeAt, agree_head, agree_tail, reached_above}
 
 -- ---- points
@@ -84,55 +84,55 @@ root_reaches nodes m origin =
 abbrev pub reach_below : (ℕ → Point → List Point) → ℕ → Point → Bool
 reach_below below q origin = are_in_reach (below q origin)
 
-frame_from_zero : (nodes : List Node) (m : MovesModel) (origin : Point) (f : Frame) → f.node ≤ length nodes
-    → frame_origin nodes m origin f ≡ point_sum origin (frame_shift (offsets_of nodes m zero_point) f)
-frame_from_zero nodes m origin f le =
-    ap (λ (o : Point). point_sum o (frame_corner f)) (from_zero nodes m origin f.node)
-    ∙ sum_assoc origin (offset_of nodes m zero_point f.node) (frame_corner f)
-    ∙ ap (λ (o : Point). point_sum origin (point_sum o (frame_corner f))) (sym (table-has nodes m zero_point f.node zero_point le))
+iframe_from_zero : (nodes : List Node) (m : MovesModel) (origin : Point) (f : Iframe) → f.node ≤ length nodes
+    → iframe_origin nodes m origin f ≡ point_sum origin (iframe_shift (offsets_of nodes m zero_point) f)
+iframe_from_zero nodes m origin f le =
+    ap (λ (o : Point). point_sum o (iframe_corner f)) (from_zero nodes m origin f.node)
+    ∙ sum_assoc origin (offset_of nodes m zero_point f.node) (iframe_corner f)
+    ∙ ap (λ (o : Point). point_sum origin (point_sum o (iframe_corner f))) (sym (table-has nodes m zero_point f.node zero_point le))
 
-frames_tell : (own : ℕ) (below : ℕ → Point → List Point) (nodes : List Node) (m : MovesModel) (origin : Point) (fs : List Frame) → AreFrames own (length nodes + 1) fs
-    → are_in_reach (flat_map (λ f. below f.pipeline (frame_origin nodes m origin f)) fs) ≡ list_all (frame_reaches (reach_below below) (offsets_of nodes m zero_point) origin) fs
-frames_tell own below nodes m origin [] h = refl
-frames_tell own below nodes m origin (f ∷ fs) h =
+iframes_tell : (own : ℕ) (below : ℕ → Point → List Point) (nodes : List Node) (m : MovesModel) (origin : Point) (fs : List Iframe) → AreIframes own (length nodes + 1) fs
+    → are_in_reach (flat_map (λ f. below f.pipeline (iframe_origin nodes m origin f)) fs) ≡ list_all (iframe_reaches (reach_below below) (offsets_of nodes m zero_point) origin) fs
+iframes_tell own below nodes m origin [] h = refl
+iframes_tell own below nodes m origin (f ∷ fs) h =
     let node : f.node < length nodes + 1 = h.0.node in
-    list_all-append is_point_in_reach (below f.pipeline (frame_origin nodes m origin f)) (flat_map (λ f. below f.pipeline (frame_origin nodes m origin f)) fs)
+    list_all-append is_point_in_reach (below f.pipeline (iframe_origin nodes m origin f)) (flat_map (λ f. below f.pipeline (iframe_origin nodes m origin f)) fs)
     ∙ ap₂ (λ (a b : Bool). a && b)
-    (ap (λ (o : Point). are_in_reach (below f.pipeline o)) (frame_from_zero nodes m origin f (omega arith)))
-    (frames_tell own below nodes m origin fs h.1)
+    (ap (λ (o : Point). are_in_reach (below f.pipeline o)) (iframe_from_zero nodes m origin f (omega arith)))
+    (iframes_tell own below nodes m origin fs h.1)
 
 list_tells : (own : ℕ) (below : ℕ → Point → List Point) (m : MovesModel) (o : Option ListModel) (origin : Point) → ((l : ListModel) → o ≡ Some l → IsListOf own l)
     → list_reaches (reach_below below) m o origin ≡ are_in_reach (list_places below m o origin)
 list_tells own below m None origin fit = refl
 list_tells own below m (Some l) origin fit =
-    sym (list_all-append is_point_in_reach (offsets_of l.nodes m origin) (flat_map (λ f. below f.pipeline (frame_origin l.nodes m origin f)) (summary_of l).frames)
+    sym (list_all-append is_point_in_reach (offsets_of l.nodes m origin) (flat_map (λ f. below f.pipeline (iframe_origin l.nodes m origin f)) (summary_of l).iframes)
     ∙ ap₂ (λ (a b : Bool). a && b)
     (ap are_in_reach (offsets_from_zero l.nodes m origin) ∙ list_all-map is_point_in_reach (point_sum origin) (offsets_of l.nodes m zero_point))
-    (frames_tell own below l.nodes m origin (summary_of l).frames (list_frames own l (fit l refl))))
+    (iframes_tell own below l.nodes m origin (summary_of l).iframes (list_iframes own l (fit l refl))))
 
 -- a room that is narrowed by nodes and then by Iframes
-pub listed_room : (rooms : List (Option Room)) (l : ListModel) (m : MovesModel) (ps qs : List Point) (fs : List Frame) (own r : Room) (origin : Point)
-    → ps ≡ offsets_of l.nodes m zero_point → qs ≡ offsets_of l.nodes m zero_point → fs ≡ (summary_of l).frames
+pub listed_room : (rooms : List (Option Room)) (l : ListModel) (m : MovesModel) (ps qs : List Point) (fs : List Iframe) (own r : Room) (origin : Point)
+    → ps ≡ offsets_of l.nodes m zero_point → qs ≡ offsets_of l.nodes m zero_point → fs ≡ (summary_of l).iframes
     → room_has own origin ≡ (is_point_in_reach origin && nodes_reach ps origin)
-    → room_has r origin ≡ (room_has own origin && list_all (frame_reaches (rooms_have rooms) qs origin) fs)
+    → room_has r origin ≡ (room_has own origin && list_all (iframe_reaches (rooms_have rooms) qs origin) fs)
     → room_has r origin ≡ list_reaches (rooms_have rooms) m (Some l) origin
 listed_room rooms l m ps qs fs own r origin e f g owns is_r =
     let below = rooms_have rooms in
     let os = offsets_of l.nodes m zero_point in
     is_r
-    ∙ ap₂ (λ (b : Bool) (ts : List Point). b && list_all (frame_reaches below ts origin) fs) (owns ∙ ap (λ (ts : List Point). is_point_in_reach origin && nodes_reach ts origin) e ∙ root_reaches l.nodes m origin) f
-    ∙ ap (λ (gs : List Frame). nodes_reach os origin && list_all (frame_reaches below os origin) gs) g
+    ∙ ap₂ (λ (b : Bool) (ts : List Point). b && list_all (iframe_reaches below ts origin) fs) (owns ∙ ap (λ (ts : List Point). is_point_in_reach origin && nodes_reach ts origin) e ∙ root_reaches l.nodes m origin) f
+    ∙ ap (λ (gs : List Iframe). nodes_reach os origin && list_all (iframe_reaches below os origin) gs) g
 
 -- tables that agree at what is named
-same_frames : (f g : ℕ → Point → Bool) (os : List Point) (origin : Point) (fs : List Frame) → AgreeAt f g fs → list_all (frame_reaches f os origin) fs ≡ list_all (frame_reaches g os origin) fs
-same_frames f g os origin [] h = refl
-same_frames f g os origin (a ∷ fs) h =
-    ap₂ (λ (s t : Bool). s && t) (ap (λ (b : Point → Bool). b (point_sum origin (frame_shift os a))) (agree_head f g a fs h)) (same_frames f g os origin fs (agree_tail f g a fs h))
+same_iframes : (f g : ℕ → Point → Bool) (os : List Point) (origin : Point) (fs : List Iframe) → AgreeAt f g fs → list_all (iframe_reaches f os origin) fs ≡ list_all (iframe_reaches g os origin) fs
+same_iframes f g os origin [] h = refl
+same_iframes f g os origin (a ∷ fs) h =
+    ap₂ (λ (s t : Bool). s && t) (ap (λ (b : Point → Bool). b (point_sum origin (iframe_shift os a))) (agree_head f g a fs h)) (same_iframes f g os origin fs (agree_tail f g a fs h))
 
-same_reaches : (f g : ℕ → Point → Bool) (m : MovesModel) (o : Option ListModel) (origin : Point) → AgreeAt f g (frames_of o) → list_reaches f m o origin ≡ list_reaches g m o origin
+same_reaches : (f g : ℕ → Point → Bool) (m : MovesModel) (o : Option ListModel) (origin : Point) → AgreeAt f g (iframes_of o) → list_reaches f m o origin ≡ list_reaches g m o origin
 same_reaches f g m None origin h = refl
 same_reaches f g m (Some l) origin h =
-    ap (λ (b : Bool). nodes_reach (offsets_of l.nodes m zero_point) origin && b) (same_frames f g (offsets_of l.nodes m zero_point) origin (summary_of l).frames h)
+    ap (λ (b : Bool). nodes_reach (offsets_of l.nodes m zero_point) origin && b) (same_iframes f g (offsets_of l.nodes m zero_point) origin (summary_of l).iframes h)
 
 -- ---- the table
 
@@ -145,17 +145,17 @@ pub rooms_start : (reached : ℕ → Bool) (rooms : List (Option Room)) (ps : Pi
 rooms_start reached rooms ps low h q le lt on m k origin = absurd (omega arith)
 
 level : (marks : List Bool) (m : ℕ) (ps : PipelineMap) (p : ℕ) (r : Option Room) (rooms : List (Option Room)) → AreFit ps → AreReached marks ps → p < 64 → is_marked marks p ≡ true → 64 ≤ m + p
-    → IsRoomOf r (rooms_have rooms) (pipeline_at ps p).moves (list_at ps p) → AreRooms (is_marked marks) rooms ps (p + 1) → (origin : Point) → maybe_has r origin ≡ are_in_reach (node_places m ps p origin)
+    → IsRoomOf r (rooms_have rooms) (pipeline_at ps p).moves (pipeline_list ps p) → AreRooms (is_marked marks) rooms ps (p + 1) → (origin : Point) → maybe_has r origin ≡ are_in_reach (node_places m ps p origin)
 unfolding node_places
 level marks zero ps p r rooms fit are lt on le is_r was origin = absurd (omega arith)
 level marks (suc m) ps p r rooms fit are lt on le is_r was origin =
     is_r origin
-    ∙ same_reaches (rooms_have rooms) (reach_below (node_places m ps)) (pipeline_at ps p).moves (list_at ps p) origin
+    ∙ same_reaches (rooms_have rooms) (reach_below (node_places m ps)) (pipeline_at ps p).moves (pipeline_list ps p) origin
     (λ q name. let k = reached_above ps marks p q fit are lt on name in let up : p < q = k.0 in λ i. λ at. was q (omega arith) k.1 k.2 m (omega arith) at i)
-    ∙ list_tells p (node_places m ps) (pipeline_at ps p).moves (list_at ps p) origin (λ l e. fit.each p l e)
+    ∙ list_tells p (node_places m ps) (pipeline_at ps p).moves (pipeline_list ps p) origin (λ l e. fit.each p l e)
 
 pub rooms_grow : (marks : List Bool) (ps : PipelineMap) (p high : ℕ) (r : Option Room) (rooms : List (Option Room)) → AreFit ps → AreReached marks ps → p < 64 → is_marked marks p ≡ true
-    → length rooms ≡ 64 → high ≡ p + 1 → IsRoomOf r (rooms_have rooms) (pipeline_at ps p).moves (list_at ps p) → AreRooms (is_marked marks) rooms ps high
+    → length rooms ≡ 64 → high ≡ p + 1 → IsRoomOf r (rooms_have rooms) (pipeline_at ps p).moves (pipeline_list ps p) → AreRooms (is_marked marks) rooms ps high
     → AreRooms (is_marked marks) (set rooms p r) ps p
 rooms_grow marks ps p high r rooms fit are lt on size e is_r was q le low here m h origin =
     elim (cases_lt p q) [

@@ -24,10 +24,10 @@ all_all f xs k s total le h =
 
 -- ---- Iframes
 
-pub framed : (rooms : List (Option Room)) (q : ℕ) (room : Room) (s : Bool) (origin shift : Point) (i j : ℤ) → Some room ≡ get_or rooms q None → i ≡ shift.x → j ≡ shift.y
+pub with_room : (rooms : List (Option Room)) (q : ℕ) (room : Room) (s : Bool) (origin shift : Point) (i j : ℤ) → Some room ≡ get_or rooms q None → i ≡ shift.x → j ≡ shift.y
     → (s && room_has room (point_sum origin (record { x = i; y = j }))) ≡ (s && rooms_have rooms q (point_sum origin shift))
-framed rooms q room s origin shift i j e f g =
+with_room rooms q room s origin shift i j e f g =
     ap₂ (λ (k l : ℤ). s && room_has room (point_sum origin (record { x = k; y = l }))) f g ∙ ap (λ (o : Option Room). s && maybe_has o (point_sum origin shift)) e
 
-pub unframed : (rooms : List (Option Room)) (q : ℕ) (s : Bool) (origin : Point) → None ≡ get_or rooms q None → s ≡ (s && rooms_have rooms q origin)
-unframed rooms q s origin e = sym (and-true s) ∙ ap (λ (o : Option Room). s && maybe_has o origin) e
+pub without_room : (rooms : List (Option Room)) (q : ℕ) (s : Bool) (origin : Point) → None ≡ get_or rooms q None → s ≡ (s && rooms_have rooms q origin)
+without_room rooms q s origin e = sym (and-true s) ∙ ap (λ (o : Option Room). s && maybe_has o origin) e

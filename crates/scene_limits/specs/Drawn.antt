@@ -2,28 +2,28 @@
 use Rattle.std.specs.Prelude.{ℕ, ◌<◌, Bool, true, false, IsTrue, List, [], ◌==◌, Option, Some, None, slice_index_or}
 use Rattle.std.specs.List.{list_any}
 use Rattle.display_list.specs.ListModel.{ListModel}
-use Rattle.list_summary.specs.declared.frame.Frame.{Frame}
-use Rattle.list_summary.specs.Frames.{summary_of}
-use Rattle.pipelines.specs.Table.{PipelineMap, list_at}
+use Rattle.list_summary.specs.declared.iframe.Iframe.{Iframe}
+use Rattle.list_summary.specs.Iframes.{summary_of}
+use Rattle.pipelines.specs.Table.{PipelineMap, pipeline_list}
 
 -- a list's Iframes
-abbrev pub frames_of : Option ListModel → List Frame
-frames_of None = []
-frames_of (Some l) = (summary_of l).frames
+abbrev pub iframes_of : Option ListModel → List Iframe
+iframes_of None = []
+iframes_of (Some l) = (summary_of l).iframes
 
 abbrev pub is_some_list : Option ListModel → Bool
 is_some_list None = false
 is_some_list (Some l) = true
 
 abbrev pub has_list : PipelineMap → ℕ → Bool
-has_list pipelines p = is_some_list (list_at pipelines p)
+has_list pipelines p = is_some_list (pipeline_list pipelines p)
 
-abbrev pub have_frame_of : ℕ → List Frame → Bool
-have_frame_of q frames = list_any (λ f. f.pipeline == q) frames
+abbrev pub have_iframe_of : ℕ → List Iframe → Bool
+have_iframe_of q iframes = list_any (λ f. f.pipeline == q) iframes
 
 -- an Iframe of the one names the other
 abbrev pub names : PipelineMap → ℕ → ℕ → Bool
-names pipelines p q = have_frame_of q (frames_of (list_at pipelines p))
+names pipelines p q = have_iframe_of q (iframes_of (pipeline_list pipelines p))
 
 -- pipeline 0 where it has a list, and what has a list and is named by an Iframe of a pipeline that is drawn
 pub data IsDrawn (pipelines : PipelineMap) : ℕ → Type 0 where

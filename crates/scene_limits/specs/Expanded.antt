@@ -4,10 +4,10 @@ use Rattle.display_list.specs.Levels.{totals_of}
 use Rattle.display_list.specs.ListModel.{ListModel}
 use Rattle.display_list.specs.Trees.{told}
 use Rattle.list_summary.specs.declared.totals.Totals.{Totals}
-use Rattle.list_summary.specs.Frames.{summary_of, with_frames}
+use Rattle.list_summary.specs.Iframes.{summary_of, with_iframes}
 use Rattle.list_summary.specs.Shown.{Shown, shown_trees}
 use Rattle.list_summary.specs.Totals.{no_totals}
-use Rattle.pipelines.specs.Table.{PipelineMap, list_at}
+use Rattle.pipelines.specs.Table.{PipelineMap, pipeline_list}
 
 -- ---- the meaning
 
@@ -19,14 +19,14 @@ shown_list below (Some l) = shown_trees below (totals_of l.chains) (told l.items
 -- the items of a pipeline, through at most so many levels of pipelines
 unfoldable pub expanded : ℕ → PipelineMap → ℕ → List Shown
 expanded zero pipelines p = []
-expanded (suc n) pipelines p = shown_list (expanded n pipelines) (list_at pipelines p)
+expanded (suc n) pipelines p = shown_list (expanded n pipelines) (pipeline_list pipelines p)
 
 -- ---- by totals alone
 
 -- the totals of an expanded list; `below` gives those of another pipeline
 abbrev pub list_totals : (ℕ → Totals) → Option ListModel → Totals
 list_totals below None = no_totals
-list_totals below (Some l) = with_frames below (summary_of l).frames (summary_of l).own
+list_totals below (Some l) = with_iframes below (summary_of l).iframes (summary_of l).own
 
 -- a pipeline's, in a table
 abbrev pub totals_in : List Totals → ℕ → Totals

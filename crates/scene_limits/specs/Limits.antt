@@ -29,11 +29,11 @@ abbrev pub are_in_reach : List Point → Bool
 are_in_reach places = list_all is_point_in_reach places
 
 -- a node is out of reach on an axis
-abbrev pub is_far : List Point → Bool
-is_far places = not (are_in_reach places)
+abbrev pub is_any_far : List Point → Bool
+is_any_far places = not (are_in_reach places)
 
 -- the first limit that the scene breaks, if it breaks one
 unfoldable pub scene_fault : PipelineMap → Option Code
 scene_fault pipelines =
-    if goes_deep (expanded 64 pipelines 0) || is_far (node_places 64 pipelines 0 zero_point) then Some TooDeep
+    if goes_deep (expanded 64 pipelines 0) || is_any_far (node_places 64 pipelines 0 zero_point) then Some TooDeep
     else (if is_large (expanded 64 pipelines 0) then Some TooManyItems else None)

@@ -1,4 +1,5 @@
-ghost use Rattle.scene_limits.specs.Laws.{FramesAreInReach, ItemsOfEachList, MoreLevelsShowNoMore, NoFaultIsWithin, NodesAreInReach, PlacesOfEachList};
+ghost use Rattle.scene_limits.specs.Laws.{ItemsOfEachList, MoreLevelsShowNoMore, PlacesOfEachList};
+ghost use Rattle.scene_limits.specs.Laws.{IframesAreInReach, NoFaultIsWithin, NodesAreInReach};
 
 /// 64 levels of pipelines are enough, for whoever reasons about expanded scenes. It does nothing.
 pub fn level_laws()
@@ -12,5 +13,5 @@ pub fn level_laws()
 pub fn limit_laws()
     ensures within { NoFaultIsWithin }
     ensures nodes { NodesAreInReach }
-    ensures frames { FramesAreInReach }
+    ensures iframes { IframesAreInReach }
 {}

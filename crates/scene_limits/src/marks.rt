@@ -1,10 +1,11 @@
 //! Which pipelines are drawn.
 
 ghost use Rattle.std.specs.Prelude.{◌≡◌, ◌↔◌, ◌||◌, ◌&&◌, ◌<◌, ℕ, true, false, IsTrue, replicate, slice_set};
-ghost use Rattle.pipelines.specs.Table.{list_of};
-ghost use Rattle.scene_limits.specs.Drawn.{AreDrawn, AreReached, IsDrawn, frames_of, has_list, have_frame_of, is_drawn, is_marked, is_some_list};
+ghost use Rattle.pipelines.specs.Table.{listed_list};
+ghost use Rattle.scene_limits.specs.Drawn.{AreDrawn, AreReached, IsDrawn, is_drawn, is_marked};
+ghost use Rattle.scene_limits.specs.Drawn.{has_list, have_iframe_of, iframes_of, is_some_list};
 
-use list_summary::Frame;
+use list_summary::Iframe;
 use pipelines::{Pipeline, Pipelines};
 
 fn mark(marks: &mut [bool], pipeline: u8)
@@ -16,20 +17,20 @@ fn mark(marks: &mut [bool], pipeline: u8)
     }
 }
 
-fn mark_frames(marks: &mut [bool], frames: &[Frame])
-    ensures { (q : ℕ) → is_marked marks.new q ≡ (is_marked marks.old q || have_frame_of q frames.now) }
+fn mark_iframes(marks: &mut [bool], iframes: &[Iframe])
+    ensures { (q : ℕ) → is_marked marks.new q ≡ (is_marked marks.old q || have_iframe_of q iframes.now) }
 {
-    for frame in frames {
-        mark(marks, frame.pipeline);
+    for iframe in iframes {
+        mark(marks, iframe.pipeline);
     }
 }
 
 /// Marks what the Iframes of a pipeline name.
 fn mark_named(marks: &mut [bool], pipeline: &Pipeline)
-    ensures { (q : ℕ) → is_marked marks.new q ≡ (is_marked marks.old q || have_frame_of q (frames_of (list_of pipeline.now.listed))) }
+    ensures { (q : ℕ) → is_marked marks.new q ≡ (is_marked marks.old q || have_iframe_of q (iframes_of (listed_list pipeline.now.listed))) }
 {
     if let Some(listed) = pipeline.listed() {
-        mark_frames(marks, listed.summary().frames());
+        mark_iframes(marks, listed.summary().iframes());
     }
 }
 

@@ -3,14 +3,14 @@
 ghost use Rattle.std.specs.Prelude.{◌≡◌, ℤ, pos, neg_ℤ, ◌+ℤ◌, ◌≤ℤ◌, ◌^◌, ◌&&◌, IfOk, None, replicate, slice_index_or};
 ghost use Rattle.std.specs.List.{list_all};
 ghost use Rattle.wr_geom.specs.declared.point.Point as a_point;
-ghost use Rattle.pipelines.specs.Table.{list_of};
+ghost use Rattle.pipelines.specs.Table.{listed_list};
 ghost use Rattle.scene_limits.specs.Drawn.{AreReached};
-ghost use Rattle.scene_limits.specs.Limits.{is_far, is_point_in_reach};
+ghost use Rattle.scene_limits.specs.Limits.{is_any_far, is_point_in_reach};
 ghost use Rattle.scene_limits.specs.Places.{node_places, zero_point};
-ghost use Rattle.scene_limits.specs.Rooms.{IsRoomOf, frame_reaches, frame_shift, nodes_reach, room_has, rooms_have};
+ghost use Rattle.scene_limits.specs.Rooms.{IsRoomOf, iframe_reaches, iframe_shift, nodes_reach, room_has, rooms_have};
 
 use crate::room::Room;
-use list_summary::Frame;
+use list_summary::Iframe;
 use pipelines::{Listed, Pipeline, Pipelines};
 use spatial_tree::{Moves, offsets};
 use std::alloc::Global;
@@ -45,17 +45,17 @@ fn sum_of(a: i32, b: i32) -> i64
 }
 
 /// How far an Iframe puts its pipeline's origin from its own pipeline's, on each axis.
-fn shift(offsets: &[Point], frame: Frame) -> (i64, i64)
-    ensures x { result.0 ≡ (frame_shift offsets.now frame).x }
-    ensures y { result.1 ≡ (frame_shift offsets.now frame).y }
+fn shift(offsets: &[Point], iframe: Iframe) -> (i64, i64)
+    ensures x { result.0 ≡ (iframe_shift offsets.now iframe).x }
+    ensures y { result.1 ≡ (iframe_shift offsets.now iframe).y }
     ensures left { neg_ℤ (pos (2 ^ 33)) ≤ℤ result.0 }
     ensures right { result.0 ≤ℤ pos (2 ^ 33) }
     ensures top { neg_ℤ (pos (2 ^ 33)) ≤ℤ result.1 }
     ensures bottom { result.1 ≤ℤ pos (2 ^ 33) }
 {
-    let offset = offset_at(offsets, frame.node);
-    let x = sum_of(offset.x, frame.x);
-    let y = sum_of(offset.y, frame.y);
+    let offset = offset_at(offsets, iframe.node);
+    let x = sum_of(offset.x, iframe.x);
+    let y = sum_of(offset.y, iframe.y);
     (x, y)
 }
 
@@ -67,12 +67,12 @@ fn room_at(rooms: &[Option<Room>], pipeline: u8) -> Option<Room>
 }
 
 /// The origins that leave in reach what an Iframe shows too.
-fn narrow_by_frame(frame: Frame, offsets: &[Point], rooms: &[Option<Room>], sum: Room) -> Room
-    ensures { (origin : a_point.Point) → room_has result origin ≡ (room_has sum origin && frame_reaches (rooms_have rooms.now) offsets.now origin frame) }
+fn narrow_by_iframe(iframe: Iframe, offsets: &[Point], rooms: &[Option<Room>], sum: Room) -> Room
+    ensures { (origin : a_point.Point) → room_has result origin ≡ (room_has sum origin && iframe_reaches (rooms_have rooms.now) offsets.now origin iframe) }
 {
-    match room_at(rooms, frame.pipeline) {
+    match room_at(rooms, iframe.pipeline) {
         Some(room) => {
-            let (x, y) = shift(offsets, frame);
+            let (x, y) = shift(offsets, iframe);
             sum.narrowed(room, x, y)
         }
         None => sum,
@@ -80,12 +80,17 @@ fn narrow_by_frame(frame: Frame, offsets: &[Point], rooms: &[Option<Room>], sum:
 }
 
 /// The origins that leave in reach what Iframes show too.
-fn narrow_by_frames(frames: &[Frame], offsets: &[Point], rooms: &[Option<Room>], sum: Room) -> Room
-    ensures { (origin : a_point.Point) → room_has result origin ≡ (room_has sum origin && list_all (frame_reaches (rooms_have rooms.now) offsets.now origin) frames.now) }
+fn narrow_by_iframes(
+    iframes: &[Iframe],
+    offsets: &[Point],
+    rooms: &[Option<Room>],
+    sum: Room,
+) -> Room
+    ensures { (origin : a_point.Point) → room_has result origin ≡ (room_has sum origin && list_all (iframe_reaches (rooms_have rooms.now) offsets.now origin) iframes.now) }
 {
     let mut sum = sum;
-    for frame in frames {
-        sum = narrow_by_frame(*frame, offsets, rooms, sum);
+    for iframe in iframes {
+        sum = narrow_by_iframe(*iframe, offsets, rooms, sum);
     }
     sum
 }
@@ -101,7 +106,7 @@ fn list_room(
 {
     let offsets = offsets(alloc, listed.list(), moves, Point { x: 0, y: 0 })?;
     let own = narrow_by_nodes(&offsets);
-    Ok(narrow_by_frames(listed.summary().frames(), &offsets, rooms, own))
+    Ok(narrow_by_iframes(listed.summary().iframes(), &offsets, rooms, own))
 }
 
 /// The room of a pipeline that has a list, by the rooms of the pipelines that it names.
@@ -110,7 +115,7 @@ fn pipeline_room(
     pipeline: &Pipeline,
     rooms: &[Option<Room>],
 ) -> Result<Option<Room>, NoMemory>
-    ensures { IfOk result (λ room. IsRoomOf room (rooms_have rooms.now) pipeline.now.moves (list_of pipeline.now.listed)) }
+    ensures { IfOk result (λ room. IsRoomOf room (rooms_have rooms.now) pipeline.now.moves (listed_list pipeline.now.listed)) }
 {
     match pipeline.listed() {
         None => Ok(None),
@@ -135,7 +140,7 @@ pub(crate) fn is_scene_far(
     reached: &[bool; 64],
 ) -> Result<bool, NoMemory>
     requires { AreReached reached.now pipelines.now }
-    ensures { IfOk result (λ far. far ≡ is_far (node_places 64 pipelines.now 0 zero_point)) }
+    ensures { IfOk result (λ far. far ≡ is_any_far (node_places 64 pipelines.now 0 zero_point)) }
 {
     let mut rooms = no_rooms();
     for step in 0..64u8 {

@@ -1,14 +1,14 @@
 //! What the expanded scene has together.
 
 ghost use Rattle.std.specs.Prelude.{◌≡◌, ◌||◌, nat_lt, replicate};
-ghost use Rattle.list_summary.specs.Frames.{framed, with_frames};
+ghost use Rattle.list_summary.specs.Iframes.{iframe_totals, with_iframes};
 ghost use Rattle.list_summary.specs.Totals.{no_totals, totals_of_shown};
-ghost use Rattle.pipelines.specs.Table.{list_of};
+ghost use Rattle.pipelines.specs.Table.{listed_list};
 ghost use Rattle.scene_limits.specs.Drawn.{AreReached};
 ghost use Rattle.scene_limits.specs.Expanded.{expanded, list_totals, totals_in};
 
 use crate::limits::{MAX_CLIPS, MAX_GLYPHS, MAX_ITEM_CLIPS, MAX_ITEMS, MAX_NESTING};
-use list_summary::{Frame, Totals};
+use list_summary::{Iframe, Totals};
 use pipelines::{Pipeline, Pipelines};
 
 fn totals_at(table: &[Totals], pipeline: u8) -> Totals
@@ -21,32 +21,32 @@ fn totals_at(table: &[Totals], pipeline: u8) -> Totals
 }
 
 /// What an Iframe adds.
-fn frame_totals(frame: Frame, table: &[Totals]) -> Totals
-    ensures { result ≡ framed frame (totals_in table.now frame.pipeline) }
+fn iframe_totals(iframe: Iframe, table: &[Totals]) -> Totals
+    ensures { result ≡ iframe_totals iframe (totals_in table.now iframe.pipeline) }
 {
-    let inside = totals_at(table, frame.pipeline);
-    inside.lowered(u32::from(frame.contexts), u32::from(frame.clips) + 1)
+    let inside = totals_at(table, iframe.pipeline);
+    inside.lowered(u32::from(iframe.contexts), u32::from(iframe.clips) + 1)
 }
 
-fn add_frames(frames: &[Frame], table: &[Totals], own: Totals) -> Totals
-    ensures { result ≡ with_frames (totals_in table.now) frames.now own }
+fn add_iframes(iframes: &[Iframe], table: &[Totals], own: Totals) -> Totals
+    ensures { result ≡ with_iframes (totals_in table.now) iframes.now own }
 {
     let mut sum = own;
-    for frame in frames {
-        sum = sum.both(frame_totals(*frame, table));
+    for iframe in iframes {
+        sum = sum.both(iframe_totals(*iframe, table));
     }
     sum
 }
 
 /// The totals of a pipeline, by those of the pipelines that it names.
 fn pipeline_totals(pipeline: &Pipeline, table: &[Totals]) -> Totals
-    ensures { result ≡ list_totals (totals_in table.now) (list_of pipeline.now.listed) }
+    ensures { result ≡ list_totals (totals_in table.now) (listed_list pipeline.now.listed) }
 {
     match pipeline.listed() {
         None => Totals::NONE,
         Some(listed) => {
             let summary = listed.summary();
-            add_frames(summary.frames(), table, summary.own())
+            add_iframes(summary.iframes(), table, summary.own())
         }
     }
 }

@@ -13,7 +13,7 @@ use Rattle.image_store.specs.StoreModel.{StoreModel, Images, Masks, empty_store,
 use Rattle.std.proofs.Common.{Option, None}
 use Rattle.display_list.specs.ListModel.{ListModel}
 use Rattle.pipelines.specs.declared.pipeline.Pipeline.{Pipeline}
-use Rattle.pipelines.specs.Table.{list_of, or_blank, list_at, pipeline_at}
+use Rattle.pipelines.specs.Table.{listed_list, or_blank, pipeline_list, pipeline_at}
 use Rattle.scene_limits.specs.Expanded.{expanded, shown_list}
 use Rattle.scene_limits.specs.Places.{zero_point, node_places, list_places}
 use Rattle.scene_limits.specs.Limits.{scene_fault}
@@ -44,8 +44,8 @@ empty_is_not_full = rw (sum_of_none {X = Images} nat_cmp (sum_of image_area), su
 
 -- ---- the start
 
-no_list : (p : ℕ) → list_at map.empty p ≡ None
-no_list p = ap (λ (o : Option Pipeline). list_of (or_blank o).listed) (map.get-empty nat_cmp p)
+no_list : (p : ℕ) → pipeline_list map.empty p ≡ None
+no_list p = ap (λ (o : Option Pipeline). listed_list (or_blank o).listed) (map.get-empty nat_cmp p)
 
 no_items : expanded 64 map.empty 0 ≡ []
 unfolding expanded

@@ -30,6 +30,6 @@ error_at at texels errors.OutOfHeight = reasons.Fault (fault_at at texels errors
 error_at at texels (errors.BadPixels i) = reasons.Fault (fault_at at texels (errors.BadPixels i))
 
 -- the error of a list whose bytes begin at a position
-abbrev pub moved_error : ℕ → DecodeError → ApplyError
-moved_error by decoding.NoMemory = reasons.NoMemory
-moved_error by (decoding.Fault f) = reasons.Fault (moved_fault by f)
+abbrev pub list_error : ℕ → DecodeError → ApplyError
+list_error by decoding.NoMemory = reasons.NoMemory
+list_error by (decoding.Fault f) = reasons.Fault (moved_fault by f)

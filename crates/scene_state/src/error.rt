@@ -3,7 +3,7 @@
 ghost use Rattle.std.specs.Prelude.{◌≡◌, ◌≤◌, ◌+◌, ◌<◌, ◌^◌};
 ghost use Rattle.field_forms.specs.Outcome.{IsWithin};
 ghost use Rattle.image_store.specs.Outcome.{NamesTexelBelow};
-ghost use Rattle.scene_state.specs.StoreFaults.{error_at, moved_error};
+ghost use Rattle.scene_state.specs.StoreFaults.{error_at, list_error};
 ghost use Rattle.scene_state.specs.declared.error.ApplyError.TheVariants as reasons;
 
 use image_store::StoreError;
@@ -84,7 +84,7 @@ pub(crate) fn store_error(error: StoreError, at: u32, texels: u32) -> ApplyError
 pub(crate) fn list_error(error: DecodeError, by: u32, len: u32) -> ApplyError
     requires within { IsWithin len error }
     requires fits { by + len < 2 ^ 32 }
-    ensures { result ≡ moved_error by error }
+    ensures { result ≡ list_error by error }
 {
     match error {
         DecodeError::Fault(found) => fault(found.code, by + found.at),

@@ -5,7 +5,7 @@ ghost use Rattle.scene_limits.specs.Drawn.{IsDrawn, is_drawn};
 ghost use Rattle.scene_limits.specs.Limits.{scene_fault};
 ghost use Rattle.std.specs.Option.{option_copied, option_map};
 ghost use Rattle.wr_io.specs.declared.fault.Code.TheVariants as code;
-ghost use Rattle.pipelines.specs.Table.{pipeline_at, list_at};
+ghost use Rattle.pipelines.specs.Table.{pipeline_at, pipeline_list};
 ghost use Rattle.scene_state.specs.SceneModel.{SceneModel, start};
 ghost use Rattle.txn_format.specs.Models.{op_model};
 ghost use Rattle.scene_state.specs.Operations.{after_ops, touches};
@@ -191,7 +191,7 @@ impl Scene {
 
     /// The list of a pipeline, at most 63, where it has one.
     pub fn list(&self, pipeline: u8) -> Option<&List>
-        ensures { option_copied result ≡ list_at self.now.pipelines pipeline }
+        ensures { option_copied result ≡ pipeline_list self.now.pipelines pipeline }
     {
         match self.draft.pipelines.get(pipeline).listed() {
             None => None,

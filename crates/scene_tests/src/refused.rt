@@ -78,10 +78,10 @@ fn repeated(alloc: Global, part: &[u8], times: u32) -> Result<Vec<u8>, AllocErro
 
 /// So many Iframes of a pipeline.
 fn iframes(alloc: Global, pipeline: u8, times: u32) -> Result<Vec<u8>, AllocError> {
-    let mut frame = Vec::new(alloc);
-    frame.extend_from_slice(&IFRAME)?;
-    frame.push(pipeline)?;
-    repeated(alloc, &frame, times)
+    let mut iframe = Vec::new(alloc);
+    iframe.extend_from_slice(&IFRAME)?;
+    iframe.push(pipeline)?;
+    repeated(alloc, &iframe, times)
 }
 
 fn put_list(pipelines: &mut Pipelines, alloc: Global, p: u8, list: List) -> Result<(), NoMemory>

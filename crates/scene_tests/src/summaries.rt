@@ -1,11 +1,11 @@
 //! What lists add to a scene.
 
 use display_list::decode;
-use list_summary::{Frame, Totals, summarise, summary_laws};
+use list_summary::{Iframe, Totals, summarise, summary_laws};
 use std::test::Fail;
 
 /// A clip, a chain of it, and in a context an Iframe of pipeline 5 from (2, 3) to (6, 7) under the chain.
-const FRAMED: [u8; 59] = [
+const WITH_IFRAME: [u8; 59] = [
     3, 0, 0, 0, 0, 0, 0, 0, 0, 0, 0, 8, 0, 0, 0, 8, 0, 0, 0, // RectClip
     5, 255, 255, 1, 0, 0, // Chain
     10, 0, 0, 255, 255, 255, 255, 255, 0, 0, // PushContext
@@ -14,8 +14,8 @@ const FRAMED: [u8; 59] = [
 ];
 
 #[test]
-fn an_iframe_is_an_item_and_a_frame(rt: HostRuntime) -> Result<(), Fail> {
-    let list = decode(rt.alloc(), &FRAMED, 0)
+fn an_iframe_is_an_item_and_is_listed(rt: HostRuntime) -> Result<(), Fail> {
+    let list = decode(rt.alloc(), &WITH_IFRAME, 0)
         .ok()
         .ok_or("the bytes are a list")?;
     let summary = summarise(rt.alloc(), &list).ok().ok_or("there is memory")?;
@@ -26,7 +26,7 @@ fn an_iframe_is_an_item_and_a_frame(rt: HostRuntime) -> Result<(), Fail> {
         nesting: 1,
         most_clips: 1,
     };
-    let frame = Frame {
+    let iframe = Iframe {
         pipeline: 5,
         contexts: 1,
         clips: 1,
@@ -35,7 +35,7 @@ fn an_iframe_is_an_item_and_a_frame(rt: HostRuntime) -> Result<(), Fail> {
         y: 3,
     };
     assert_eq!(rt; summary.own(), own);
-    assert_eq!(rt; summary.frames(), [frame].as_slice());
+    assert_eq!(rt; summary.iframes(), [iframe].as_slice());
     Ok(())
 }
 

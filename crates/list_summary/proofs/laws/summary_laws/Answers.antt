@@ -1,4 +1,4 @@
-use Rattle.list_summary.proofs.FrameSums.{summaries_tell}
+use Rattle.list_summary.proofs.IframeSums.{summaries_tell}
 use Rattle.list_summary.proofs.laws.summary_laws.Goals as goal
 
 pub returns : goal.returns

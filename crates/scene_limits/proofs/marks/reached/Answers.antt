@@ -1,8 +1,8 @@
 use Rattle.std.proofs.Common.{◌≡◌, ◌+◌, ◌<◌, ◌||◌, Bool, true, false, IsTrue, List, length, set, refl, sym, ap, subst, ◌∙◌, arith}
 use Rattle.std.proofs.lemmas.List.{get_or_default, length-set}
-use Rattle.pipelines.specs.Table.{list_of}
+use Rattle.pipelines.specs.Table.{listed_list}
 use Rattle.pipelines.specs.declared.pipeline.Pipeline.{Pipeline}
-use Rattle.scene_limits.specs.Drawn.{is_marked, frames_of, have_frame_of, names, AreDrawn}
+use Rattle.scene_limits.specs.Drawn.{is_marked, iframes_of, have_iframe_of, names, AreDrawn}
 use Rattle.scene_limits.proofs.Marking.{AreNamedMarked, Grows, marks_grow, marks_stay, drawn_grow, drawn_start, marked_same}
 use Rattle.scene_limits.proofs.marks.reached.Goals as goal
 use Rattle.scene_limits.proofs.marks.reached.Goals.{then-marks-from, else-marks-from}
@@ -26,7 +26,7 @@ loop-p-preserved c =
       | then-marks-from w ↦
           (let on : is_marked marks p ≡ true = ap (is_marked marks) (sym at) ∙ get_or_default marks c.from.result true false inside ∙ w.if-marks-from.true in
           let grown = w.mark_named.new.marks in
-          let grows : Grows marks grown ps p = λ q. w.mark_named.ensures q ∙ ap (λ (l : Pipeline). is_marked marks q || have_frame_of q (frames_of (list_of l.listed))) c.get-pipeline.ensures.value in
+          let grows : Grows marks grown ps p = λ q. w.mark_named.ensures q ∙ ap (λ (l : Pipeline). is_marked marks q || have_iframe_of q (iframes_of (listed_list l.listed))) c.get-pipeline.ensures.value in
           subst (λ (ms : List Bool). IsTrue (is_marked ms 0) × AreNamedMarked ms ps (p + 1) × (length ms ≡ 64) × AreDrawn ms ps) (sym w.marks-is) (
             grows 0 ∙ ap (λ (b : Bool). b || names ps p 0) c.loop-p.invariant.0,
             marks_grow ps p (p + 1) marks grown refl fit c.loop-p.invariant.1 grows,

@@ -1,6 +1,6 @@
 use Rattle.std.proofs.Common.{◌≡◌, ℕ, ◌+◌, ◌-◌, ◌<◌, true, false, List, length, set, Option, sym, ap, subst, ◌∙◌, arith}
 use Rattle.std.proofs.lemmas.List.{get_or_default}
-use Rattle.pipelines.specs.Table.{list_of, list_at, pipeline_at}
+use Rattle.pipelines.specs.Table.{listed_list, pipeline_list, pipeline_at}
 use Rattle.pipelines.specs.declared.pipeline.Pipeline.{Pipeline}
 use Rattle.scene_limits.specs.declared.room.Room.{Room}
 use Rattle.scene_limits.specs.Drawn.{is_marked}
@@ -25,7 +25,7 @@ loop-step-preserved c =
           (let on : is_marked marks p ≡ true = ap (is_marked marks) (sym at) ∙ get_or_default marks c.from.result true false inside ∙ w.if-reached-from.true in
           let here : w.from-then-reached-from.result ≡ p = omega (arith, w.from-then-reached-from.ensures) in
           let r = w.in_ok-room.room in
-          let is_r : IsRoomOf r (rooms_have rooms) (pipeline_at ps p).moves (list_at ps p) = subst (λ (l : Pipeline). IsRoomOf r (rooms_have rooms) l.moves (list_of l.listed)) c.get-pipeline.ensures.value w.in_ok-room.ensures in
+          let is_r : IsRoomOf r (rooms_have rooms) (pipeline_at ps p).moves (pipeline_list ps p) = subst (λ (l : Pipeline). IsRoomOf r (rooms_have rooms) l.moves (listed_list l.listed)) c.get-pipeline.ensures.value w.in_ok-room.ensures in
           subst (λ (rs : List (Option Room)). AreRooms (is_marked marks) rs ps p) (sym (w.rooms-is ∙ ap (λ (i : ℕ). set rooms i r) here))
           (rooms_grow marks ps p (64 - c.loop-step.step) r rooms fit c.requires (omega arith) on (omega arith) (omega arith) is_r c.loop-step.invariant))
       | else-reached-from w ↦

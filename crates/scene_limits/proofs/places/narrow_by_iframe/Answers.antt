@@ -1,9 +1,9 @@
 use Rattle.std.proofs.Common.{ℤ, ◌∙◌, w64, to_z, of_z, rules}
 use Rattle.std.proofs.lemmas.Int.{to_z-of_z}
 use mir.Val.{SFits}
-use Rattle.scene_limits.specs.Rooms.{room_has, frame_shift}
-use Rattle.scene_limits.proofs.Walks.{framed}
-use Rattle.scene_limits.proofs.places.narrow_by_frame.Goals as goal
+use Rattle.scene_limits.specs.Rooms.{room_has, iframe_shift}
+use Rattle.scene_limits.proofs.Walks.{with_room}
+use Rattle.scene_limits.proofs.places.narrow_by_iframe.Goals as goal
 
 pub returns-in-Some : goal.returns-in-Some
 returns-in-Some c = λ origin.
@@ -12,5 +12,5 @@ returns-in-Some c = λ origin.
     let fi : SFits w64 c.shift-x.result.0 = search rules in
     let fj : SFits w64 c.shift-x.result.1 = search rules in
     c.narrowed.ensures origin
-    ∙ framed c.args.rooms.now c.args.frame.pipeline c.in-Some.room (room_has c.args.sum origin) origin (frame_shift c.args.offsets.now c.args.frame) i j c.in-Some.ensures
+    ∙ with_room c.args.rooms.now c.args.iframe.pipeline c.in-Some.room (room_has c.args.sum origin) origin (iframe_shift c.args.offsets.now c.args.iframe) i j c.in-Some.ensures
     (to_z-of_z w64 c.shift-x.result.0 fi ∙ c.shift-x.ensures.x) (to_z-of_z w64 c.shift-x.result.1 fj ∙ c.shift-x.ensures.y)

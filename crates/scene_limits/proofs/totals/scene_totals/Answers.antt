@@ -1,7 +1,7 @@
 use Rattle.std.proofs.Common.{◌≡◌, ℕ, ◌+◌, ◌-◌, ◌<◌, true, false, List, length, set, sym, ap, subst, ◌∙◌, arith}
 use Rattle.std.proofs.lemmas.List.{get_or_default}
 use Rattle.list_summary.specs.declared.totals.Totals.{Totals}
-use Rattle.pipelines.specs.Table.{list_of, list_at}
+use Rattle.pipelines.specs.Table.{listed_list, pipeline_list}
 use Rattle.pipelines.specs.declared.pipeline.Pipeline.{Pipeline}
 use Rattle.scene_limits.specs.Drawn.{is_marked}
 use Rattle.scene_limits.specs.Expanded.{list_totals, totals_in}
@@ -25,7 +25,7 @@ loop-step-preserved c =
           (let on : is_marked marks p ≡ true = ap (is_marked marks) (sym at) ∙ get_or_default marks c.from.result true false inside ∙ w.if-reached-from.true in
           let here : w.from-then-reached-from.result ≡ p = omega (arith, w.from-then-reached-from.ensures) in
           let t = w.pipeline_totals.result in
-          let is_t : t ≡ list_totals (totals_in table) (list_at ps p) = w.pipeline_totals.ensures ∙ ap (λ (l : Pipeline). list_totals (totals_in table) (list_of l.listed)) c.get-pipeline.ensures.value in
+          let is_t : t ≡ list_totals (totals_in table) (pipeline_list ps p) = w.pipeline_totals.ensures ∙ ap (λ (l : Pipeline). list_totals (totals_in table) (listed_list l.listed)) c.get-pipeline.ensures.value in
           subst (λ (ts : List Totals). IsTable (is_marked marks) ts ps p) (sym (w.table-is ∙ ap (λ (i : ℕ). set table i t) here))
           (table_grows marks ps p (64 - c.loop-step.step) t table fit c.requires (omega arith) on (omega arith) (omega arith) is_t c.loop-step.invariant))
       | else-reached-from w ↦
