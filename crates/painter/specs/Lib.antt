@@ -1,0 +1,6 @@
+pub mod PlacedList
+pub mod Painter
+pub mod TopItems
+pub mod Slices
+pub mod Progress
+pub mod Facts
