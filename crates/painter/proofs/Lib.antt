@@ -1,3 +1,4 @@
 pub mod Enough
 pub mod Reaching
 pub mod Slicing
+pub mod Painted

@@ -3,18 +3,24 @@ use Rattle.std.proofs.Common.{◌≡◌, ℕ, zero, suc, ◌+◌, ◌<◌, ◌�
 use Rattle.std.proofs.Math.IntN.{+ℤ_comm}
 use Rattle.std.proofs.lemmas.Int.{ints}
 use Rattle.std.proofs.lemmas.Bool.{and_parts}
+use Rattle.std.proofs.lemmas.Option.{none-some}
+use Rattle.std.specs.Option.{option_map}
 use Rattle.wr_geom.specs.declared.point.Point.{Point}
 use Rattle.display_list.specs.ListModel.{ListModel}
 use Rattle.display_list.specs.Levels.{totals_of}
 use Rattle.display_list.specs.declared.item.Item.{Item}
 use Rattle.display_list.specs.declared.item.Spot.{Spot}
 use Rattle.display_list.specs.Trees.{Tree, solid, image, border, text, context, iframe, hit_area, Trees, none, more, told, tree_of, trees_of, tree_nesting, nesting_of}
-use Rattle.display_list.proofs.TreeFacts.{list_trees, fits_trees}
+use Rattle.display_list.proofs.TreeFacts.{list_trees, fits_trees, trees_are_low}
 use Rattle.list_summary.specs.declared.iframe.Iframe.{Iframe}
 use Rattle.list_summary.specs.Iframes.{tree_iframes, trees_iframes, summary_of}
 use Rattle.spatial_tree.specs.Moves.{MovesModel}
-use Rattle.pipelines.specs.Table.{PipelineMap, pipeline_list, pipeline_at, AreFit}
-use Rattle.spatial_tree.specs.Offsets.{IsWithin, offset_of}
+use Rattle.spatial_tree.proofs.Places.{offset-root}
+use Rattle.spatial_tree.proofs.Distances.{within_more}
+use Rattle.pipelines.specs.Listed.{ListedModel}
+use Rattle.pipelines.specs.declared.pipeline.Pipeline.{Pipeline}
+use Rattle.pipelines.specs.Table.{PipelineMap, listed_list, pipeline_list, pipeline_at, AreFit}
+use Rattle.spatial_tree.specs.Offsets.{IsOrigin, IsWithin, offset_of}
 use Rattle.scene_limits.specs.Limits.{is_in_reach, is_point_in_reach, are_in_reach}
 use Rattle.scene_limits.specs.Places.{iframe_origin, node_places}
 use Rattle.scene_limits.proofs.Within.{nodes_in_reach, iframes_in_reach}
@@ -111,3 +117,41 @@ list_can ps p origin l fit is reach =
       above = fits_trees p l of_list.list of_list.fits;
       reach = trees_reach ps pl (totals_of l.chains) 0 (told l.items) (each_at (ShowsInReach ps pl) (summary_of l).iframes (λ k d lt. iframes_in_reach ps p origin l k d fit is lt reach));
     }
+
+-- the same of what a pipeline has
+pub has_placed : (ps : PipelineMap) (p : ℕ) (origin : Point) (has : Pipeline) (listed : ListedModel) (l : ListModel) (m : MovesModel) → AreFit ps → has ≡ pipeline_at ps p → has.listed ≡ Some listed → l ≡ listed.list → m ≡ has.moves
+    → Reaches ps p origin → IsPlaced (placed p m origin l)
+has_placed ps p origin has listed l m fit is some of moves reach =
+    subst (λ (n : MovesModel). IsPlaced (placed p n origin l)) (sym (moves ∙ ap (λ (h : Pipeline). h.moves) is))
+    (list_placed ps p origin l fit (ap (λ (h : Pipeline). listed_list h.listed) (sym is) ∙ ap listed_list some ∙ ap (λ (x : ListModel). (let o : Option ListModel = Some x in o)) (sym of)) reach)
+
+pub origin_within : (l : PlacedList) → IsPlaced l → IsOrigin l.origin
+origin_within l h = subst IsOrigin (offset-root l.list.nodes l.moves l.origin) (within_more (2 ^ 27) (2 ^ 28) (node_point l 0) (omega arith) (h.nodes 0 (omega arith)))
+
+-- ---- a list that is opened
+
+-- its number, how deep contexts nest in it, and that its items can be painted
+pub record IsOpened (ps : PipelineMap) (p : ℕ) (l : PlacedList) (ts : Trees) : Type 0 where
+  pub number : l.pipeline ≡ p
+  pub low : nesting_of ts ≤ 64
+  pub can : CanPaintAll ps l ts
+
+abbrev or_else : PlacedList → Option PlacedList → PlacedList
+or_else d None = d
+or_else d (Some l) = l
+
+opened_by : (ps : PipelineMap) (p : ℕ) (origin : Point) (o : Option ListModel) (l : PlacedList) (ts : Trees) → AreFit ps → Reaches ps p origin → pipeline_list ps p ≡ o
+    → option_map (placed p (pipeline_at ps p).moves origin) o ≡ Some l → told l.list.items ≡ ts → IsOpened ps p l ts
+opened_by ps p origin None l ts fit reach is e f = absurd (none-some l e)
+opened_by ps p origin (Some list) l ts fit reach is e f =
+    let here = placed p (pipeline_at ps p).moves origin list in
+    let same : here ≡ l = ap (or_else here) e in
+    let trees : told list.items ≡ ts = ap (λ (k : PlacedList). told k.list.items) same ∙ f in
+    record {
+      number = ap (λ (k : PlacedList). k.pipeline) (sym same);
+      low = subst (λ (us : Trees). nesting_of us ≤ 64) trees (trees_are_low list (fit.each p list is).list);
+      can = subst (λ (k : PlacedList). CanPaintAll ps k ts) same (subst (λ (us : Trees). CanPaintAll ps here us) trees (list_can ps p origin list fit is reach));
+    }
+
+pub opened : (ps : PipelineMap) (p : ℕ) (origin : Point) (l : PlacedList) (ts : Trees) → AreFit ps → Reaches ps p origin → placed_at ps p origin ≡ Some l → told l.list.items ≡ ts → IsOpened ps p l ts
+opened ps p origin l ts fit reach e f = opened_by ps p origin (pipeline_list ps p) l ts fit reach refl e f

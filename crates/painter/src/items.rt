@@ -9,7 +9,7 @@ ghost use Rattle.painter.specs.Painter.{paint_pipeline, paint_tree, paint_trees}
 use crate::pixel::ScenePixel;
 use crate::placed_list::{PlacedList, first_corner, stands_around};
 use blend_rules::Px;
-use display_list::{Item, tree_laws};
+use display_list::Item;
 use primitives::BorderColours;
 use wr_geom::Point;
 
@@ -19,20 +19,20 @@ impl ScenePixel<'_> {
     #[cycle(items)]
     pub(crate) fn paint_item(
         &self,
-        l: &PlacedList<'_>,
+        placed: &PlacedList<'_>,
         item: &Item,
         cover: u8,
         backdrop: Px,
     ) -> Px
-        requires item { CanPaint self.now.pipelines l.now (tree_of item.now) }
+        requires item { CanPaint self.now.pipelines placed.now (tree_of item.now) }
         requires backdrop { IsPremultiplied backdrop }
-        ensures value { result ≡ paint_tree (paint_pipeline self.now) self.now l.now (tree_of item.now) cover backdrop }
+        ensures value { result ≡ paint_tree (paint_pipeline self.now) self.now placed.now (tree_of item.now) cover backdrop }
         ensures premultiplied { IsPremultiplied result }
     {
         match item {
-            Item::Solid { spot, colour } => self.solid(l, *spot, *colour, cover, backdrop),
+            Item::Solid { spot, colour } => self.solid(placed, *spot, *colour, cover, backdrop),
             Item::Image { spot, key, u, v } => {
-                self.image(l, *spot, *key, *u, *v, cover, backdrop)
+                self.image(placed, *spot, *key, *u, *v, cover, backdrop)
             }
             Item::Border {
                 spot,
@@ -49,14 +49,22 @@ impl ScenePixel<'_> {
                     bottom: *bottom,
                     left: *left,
                 };
-                self.border(l, *spot, *widths, colours, *radii, cover, backdrop)
+                self.border(placed, *spot, *widths, colours, *radii, cover, backdrop)
             }
             Item::Text {
                 spot,
                 font,
                 colour,
                 glyphs,
-            } => self.text(l, *spot, *font, *colour, glyphs.as_slice(), cover, backdrop),
+            } => self.text(
+                placed,
+                *spot,
+                *font,
+                *colour,
+                glyphs.as_slice(),
+                cover,
+                backdrop,
+            ),
             Item::Context {
                 chain,
                 opacity,
@@ -66,16 +74,16 @@ impl ScenePixel<'_> {
                 children,
                 ..
             } => {
-                let opacity = l.opacity(*prop, *opacity);
+                let opacity = placed.opacity(*prop, *opacity);
                 if stands_around(opacity, *mode, *isolate, *chain) {
-                    return self.paint_items(l, children, cover, backdrop);
+                    return self.paint_items(placed, children, cover, backdrop);
                 }
-                let group = self.paint_items(l, children, 255, Px::CLEAR);
-                self.lay_group(l, *chain, opacity, *mode, group, cover, backdrop)
+                let group = self.paint_items(placed, children, 255, Px::CLEAR);
+                self.lay_group(placed, *chain, opacity, *mode, group, cover, backdrop)
             }
             Item::Iframe { spot, pipeline } => {
-                let origin = first_corner(l.item_rect(*spot));
-                let cover = self.under_iframe(l, *spot, cover);
+                let origin = first_corner(placed.item_rect(*spot));
+                let cover = self.under_iframe(placed, *spot, cover);
                 self.paint_pipeline(*pipeline, origin, cover, backdrop)
             }
             Item::HitArea { .. } => backdrop,
@@ -86,19 +94,19 @@ impl ScenePixel<'_> {
     #[cycle(items)]
     pub(crate) fn paint_items(
         &self,
-        l: &PlacedList<'_>,
+        placed: &PlacedList<'_>,
         items: &[Item],
         cover: u8,
         backdrop: Px,
     ) -> Px
-        requires items { CanPaintAll self.now.pipelines l.now (trees_of items.now) }
+        requires items { CanPaintAll self.now.pipelines placed.now (trees_of items.now) }
         requires backdrop { IsPremultiplied backdrop }
-        ensures value { result ≡ paint_trees (paint_pipeline self.now) self.now l.now (trees_of items.now) cover backdrop }
+        ensures value { result ≡ paint_trees (paint_pipeline self.now) self.now placed.now (trees_of items.now) cover backdrop }
         ensures premultiplied { IsPremultiplied result }
     {
         let mut painted = backdrop;
         for item in items {
-            painted = self.paint_item(l, item, cover, painted);
+            painted = self.paint_item(placed, item, cover, painted);
         }
         painted
     }
@@ -112,10 +120,10 @@ impl ScenePixel<'_> {
         ensures value { result ≡ paint_pipeline self.now pipeline origin cover backdrop }
         ensures premultiplied { IsPremultiplied result }
     {
-        tree_laws();
-        match self.placed(pipeline, origin) {
+        self.know();
+        match self.placed_list(pipeline, origin) {
             None => backdrop,
-            Some(l) => self.paint_items(&l, l.list.items(), cover, backdrop),
+            Some(placed) => self.paint_items(&placed, placed.list.items(), cover, backdrop),
         }
     }
 }

@@ -6,6 +6,7 @@ ghost use Rattle.blend_rules.specs.Colour.{IsPremultiplied, blended, scaled};
 ghost use Rattle.clip_masks.specs.Corners.{HasPixel};
 ghost use Rattle.field_forms.specs.Facts.{IsDefined};
 ghost use Rattle.display_list.specs.Facts.{IsSpot};
+ghost use Rattle.pipelines.specs.Table.{AreFit};
 ghost use Rattle.painter.specs.PlacedList.{chain_clips, iframe_clips, item_rect, placed_at};
 ghost use Rattle.painter.specs.Painter.{under};
 ghost use Rattle.painter.specs.Facts.{Reaches};
@@ -41,8 +42,25 @@ impl<'a> Model for ScenePixel<'a> {
 }
 
 impl ScenePixel<'_> {
+    /// The pixel's column and row.
+    pub(crate) fn at(&self) -> Point
+        ensures { result ≡ record { x = self.now.x; y = self.now.y } }
+    {
+        Point {
+            x: self.x,
+            y: self.y,
+        }
+    }
+
+    /// What is known of the pipelines, for whoever reasons about them. It does nothing.
+    pub(crate) fn know(&self)
+        ensures { AreFit self.now.pipelines }
+    {
+        let _root = self.pipelines.get(0);
+    }
+
     /// The list of a pipeline whose root is at a point, where it has one.
-    pub(crate) fn placed(&self, pipeline: u8, origin: Point) -> Option<PlacedList<'_>>
+    pub(crate) fn placed_list(&self, pipeline: u8, origin: Point) -> Option<PlacedList<'_>>
         requires { Reaches self.now.pipelines pipeline origin }
         ensures { result ≡ placed_at self.now.pipelines pipeline origin }
     {
@@ -58,63 +76,69 @@ impl ScenePixel<'_> {
     }
 
     /// The rectangle of an item, where the pixel lies in it.
-    pub(crate) fn rect_here(&self, l: &PlacedList<'_>, spot: Spot) -> Option<Rect>
-        requires { IsSpot (length l.now.list.nodes + 1) (length l.now.list.chains) spot }
-        ensures none { IsNone result → IsFalse (holds (item_rect l.now spot) self.now.x self.now.y) }
-        ensures some { IfSome result (λ r. (r ≡ item_rect l.now spot) × HasPixel r self.now.x self.now.y × IsTrue (holds r self.now.x self.now.y)) }
+    pub(crate) fn rect_here(&self, placed: &PlacedList<'_>, spot: Spot) -> Option<Rect>
+        requires { IsSpot (length placed.now.list.nodes + 1) (length placed.now.list.chains) spot }
+        ensures none { IsNone result → IsFalse (holds (item_rect placed.now spot) self.now.x self.now.y) }
+        ensures some { IfSome result (λ r. (r ≡ item_rect placed.now spot) × HasPixel r self.now.x self.now.y × IsTrue (holds (item_rect placed.now spot) self.now.x self.now.y)) }
     {
-        let rect = l.item_rect(spot);
-        let point = Point {
-            x: self.x,
-            y: self.y,
-        };
-        if rect.contains(point) {
+        let rect = placed.item_rect(spot);
+        if rect.contains(self.at()) {
             return Some(rect);
         }
         None
     }
 
     /// What a chain's clips leave of a cover.
-    pub(crate) fn under_chain(&self, l: &PlacedList<'_>, chain: Option<u16>, cover: u8) -> u8
-        requires { IsDefined (length l.now.list.chains) chain }
-        ensures { result ≡ under self.now (chain_clips l.now chain) cover }
+    pub(crate) fn under_chain(&self, placed: &PlacedList<'_>, chain: Option<u16>, cover: u8) -> u8
+        requires { IsDefined (length placed.now.list.chains) chain }
+        ensures { result ≡ under self.now (chain_clips placed.now chain) cover }
     {
-        let _root = l.node_point(0);
-        chain_cover_at(l.list, l.moves, l.origin, chain, cover, self.x, self.y)
+        let at = self.at();
+        chain_cover_at(
+            placed.list,
+            placed.moves,
+            placed.origin,
+            chain,
+            cover,
+            at.x,
+            at.y,
+        )
     }
 
     /// What an Iframe's chain and rectangle leave of a cover.
-    pub(crate) fn under_iframe(&self, l: &PlacedList<'_>, spot: Spot, cover: u8) -> u8
-        requires { IsSpot (length l.now.list.nodes + 1) (length l.now.list.chains) spot }
-        ensures { result ≡ under self.now (iframe_clips l.now spot) cover }
+    pub(crate) fn under_iframe(&self, placed: &PlacedList<'_>, spot: Spot, cover: u8) -> u8
+        requires { IsSpot (length placed.now.list.nodes + 1) (length placed.now.list.chains) spot }
+        ensures { result ≡ under self.now (iframe_clips placed.now spot) cover }
     {
-        let cover = self.under_chain(l, spot.chain, cover);
-        mul(cover, Clip::of_rect(l.item_rect(spot)).cover(self.x, self.y))
+        let at = self.at();
+        let cover = self.under_chain(placed, spot.chain, cover);
+        let rect = Clip::of_rect(placed.item_rect(spot));
+        mul(cover, rect.cover(at.x, at.y))
     }
 
     /// A colour that an item has here, under its chain and over a backdrop.
     pub(crate) fn lay(
         &self,
-        l: &PlacedList<'_>,
+        placed: &PlacedList<'_>,
         chain: Option<u16>,
         colour: Px,
         cover: u8,
         backdrop: Px,
     ) -> Px
-        requires chain { IsDefined (length l.now.list.chains) chain }
+        requires chain { IsDefined (length placed.now.list.chains) chain }
         requires colour { IsPremultiplied colour }
         requires backdrop { IsPremultiplied backdrop }
-        ensures value { result ≡ blended Mode.Normal (scaled colour (under self.now (chain_clips l.now chain) cover)) backdrop }
+        ensures value { result ≡ blended Mode.Normal (scaled colour (under self.now (chain_clips placed.now chain) cover)) backdrop }
         ensures premultiplied { IsPremultiplied result }
     {
-        let cover = self.under_chain(l, chain, cover);
+        let cover = self.under_chain(placed, chain, cover);
         blend(Mode::Normal, scale(colour, cover), backdrop)
     }
 
     /// A group whose items gave a colour, over a backdrop.
     pub(crate) fn lay_group(
         &self,
-        l: &PlacedList<'_>,
+        placed: &PlacedList<'_>,
         chain: Option<u16>,
         opacity: u8,
         mode: Mode,
@@ -122,13 +146,13 @@ impl ScenePixel<'_> {
         cover: u8,
         backdrop: Px,
     ) -> Px
-        requires chain { IsDefined (length l.now.list.chains) chain }
+        requires chain { IsDefined (length placed.now.list.chains) chain }
         requires group { IsPremultiplied group }
         requires backdrop { IsPremultiplied backdrop }
-        ensures value { result ≡ blended mode (scaled (scaled group opacity) (under self.now (chain_clips l.now chain) cover)) backdrop }
+        ensures value { result ≡ blended mode (scaled (scaled group opacity) (under self.now (chain_clips placed.now chain) cover)) backdrop }
         ensures premultiplied { IsPremultiplied result }
     {
-        let cover = self.under_chain(l, chain, cover);
+        let cover = self.under_chain(placed, chain, cover);
         blend(mode, scale(scale(group, opacity), cover), backdrop)
     }
 }

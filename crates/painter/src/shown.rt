@@ -1,6 +1,6 @@
 //! What an item shows at a pixel, under its chain and over a backdrop.
 
-ghost use Rattle.std.specs.Prelude.{◌≡◌, ◌+◌, ◌^◌, All, length, map};
+ghost use Rattle.std.specs.Prelude.{◌≡◌, ◌+◌, ◌+ℤ◌, ◌^◌, All, length, map};
 ghost use Rattle.blend_rules.specs.Colour.{IsPremultiplied, IsPixel};
 ghost use Rattle.display_list.specs.Facts.{IsBorder, IsGlyph, IsSpot};
 ghost use Rattle.primitives.specs.Borders.{HasPixelColours};
@@ -11,38 +11,51 @@ ghost use Rattle.painter.specs.Painter.{glyph_use, image_kind, paint_primitive, 
 
 use crate::pixel::ScenePixel;
 use crate::placed_list::PlacedList;
-use blend_rules::{Px, blend_laws, scale_laws};
+use blend_rules::{Px, know_bytes};
 use display_list::{GlyphAt, Spot};
 use primitives::{BorderColours, border_colour, glyph_over, image_colour_at};
 use wr_geom::{Point, Radii, Widths};
+
+/// Where the first corner of a glyph's mask lies, where its item's node is at a point.
+fn glyph_corner(at: Point, g: GlyphAt) -> Point
+    requires glyph { IsGlyph g }
+    requires reach { IsWithin (2 ^ 27) at }
+    ensures { result ≡ record { x = at.x +ℤ g.x; y = at.y +ℤ g.y } }
+{
+    Point {
+        x: at.x + g.x,
+        y: at.y + g.y,
+    }
+}
 
 impl ScenePixel<'_> {
     /// A solid.
     pub(crate) fn solid(
         &self,
-        l: &PlacedList<'_>,
+        placed: &PlacedList<'_>,
         spot: Spot,
         colour: Px,
         cover: u8,
         backdrop: Px,
     ) -> Px
-        requires spot { IsSpot (length l.now.list.nodes + 1) (length l.now.list.chains) spot }
+        requires spot { IsSpot (length placed.now.list.nodes + 1) (length placed.now.list.chains) spot }
         requires colour { IsPixel colour }
         requires backdrop { IsPremultiplied backdrop }
-        ensures value { result ≡ paint_primitive self.now (primitive_of l.now spot (kind.Solid colour)) cover backdrop }
+        ensures value { result ≡ paint_primitive self.now (primitive_of placed.now spot (kind.Solid colour)) cover backdrop }
         ensures premultiplied { IsPremultiplied result }
     {
+        know_bytes(backdrop);
         let chain = spot.chain;
-        match self.rect_here(l, spot) {
+        match self.rect_here(placed, spot) {
             None => backdrop,
-            Some(_) => self.lay(l, chain, colour, cover, backdrop),
+            Some(_) => self.lay(placed, chain, colour, cover, backdrop),
         }
     }
 
     /// An image, clear where none is stored.
     pub(crate) fn image(
         &self,
-        l: &PlacedList<'_>,
+        placed: &PlacedList<'_>,
         spot: Spot,
         key: u32,
         u: u16,
@@ -50,18 +63,28 @@ impl ScenePixel<'_> {
         cover: u8,
         backdrop: Px,
     ) -> Px
-        requires spot { IsSpot (length l.now.list.nodes + 1) (length l.now.list.chains) spot }
+        requires spot { IsSpot (length placed.now.list.nodes + 1) (length placed.now.list.chains) spot }
         requires backdrop { IsPremultiplied backdrop }
-        ensures value { result ≡ paint_primitive self.now (primitive_of l.now spot (image_kind self.now.store l.now key u v)) cover backdrop }
+        ensures value { result ≡ paint_primitive self.now (primitive_of placed.now spot (image_kind self.now.store placed.now key u v)) cover backdrop }
         ensures premultiplied { IsPremultiplied result }
     {
+        know_bytes(backdrop);
         let chain = spot.chain;
-        match self.rect_here(l, spot) {
+        match self.rect_here(placed, spot) {
             None => backdrop,
             Some(rect) => {
-                let colour =
-                    image_colour_at(self.store, l.pipeline, key, rect, u, v, self.x, self.y);
-                self.lay(l, chain, colour, cover, backdrop)
+                let at = self.at();
+                let colour = image_colour_at(
+                    self.store,
+                    placed.pipeline,
+                    key,
+                    rect,
+                    u,
+                    v,
+                    at.x,
+                    at.y,
+                );
+                self.lay(placed, chain, colour, cover, backdrop)
             }
         }
     }
@@ -69,7 +92,7 @@ impl ScenePixel<'_> {
     /// A border.
     pub(crate) fn border(
         &self,
-        l: &PlacedList<'_>,
+        placed: &PlacedList<'_>,
         spot: Spot,
         widths: Widths,
         colours: BorderColours,
@@ -77,19 +100,21 @@ impl ScenePixel<'_> {
         cover: u8,
         backdrop: Px,
     ) -> Px
-        requires spot { IsSpot (length l.now.list.nodes + 1) (length l.now.list.chains) spot }
+        requires spot { IsSpot (length placed.now.list.nodes + 1) (length placed.now.list.chains) spot }
         requires border { IsBorder spot.rect widths radii }
         requires colours { HasPixelColours colours }
         requires backdrop { IsPremultiplied backdrop }
-        ensures value { result ≡ paint_primitive self.now (primitive_of l.now spot (kind.Border widths colours.top colours.right colours.bottom colours.left radii)) cover backdrop }
+        ensures value { result ≡ paint_primitive self.now (primitive_of placed.now spot (kind.Border widths colours.top colours.right colours.bottom colours.left radii)) cover backdrop }
         ensures premultiplied { IsPremultiplied result }
     {
+        know_bytes(backdrop);
         let chain = spot.chain;
-        match self.rect_here(l, spot) {
+        match self.rect_here(placed, spot) {
             None => backdrop,
             Some(rect) => {
-                let colour = border_colour(rect, widths, colours, radii, self.x, self.y);
-                self.lay(l, chain, colour, cover, backdrop)
+                let at = self.at();
+                let colour = border_colour(rect, widths, colours, radii, at.x, at.y);
+                self.lay(placed, chain, colour, cover, backdrop)
             }
         }
     }
@@ -111,24 +136,15 @@ impl ScenePixel<'_> {
         ensures value { result ≡ glyph_use_over self.now.store pipeline font colour self.now.x self.now.y so_far (glyph_use self.now.store pipeline font at g) }
         ensures pixel { IsPixel result }
     {
-        let corner = Point {
-            x: at.x + g.x,
-            y: at.y + g.y,
-        };
+        let here = self.at();
+        let corner = glyph_corner(at, g);
         glyph_over(
-            self.store, pipeline, font, colour, g.glyph, corner, so_far, self.x, self.y,
+            self.store, pipeline, font, colour, g.glyph, corner, so_far, here.x, here.y,
         )
     }
 
     /// The glyphs of a text in order, from clear.
-    fn text_colour(
-        &self,
-        pipeline: u8,
-        font: u16,
-        colour: Px,
-        at: Point,
-        glyphs: &[GlyphAt],
-    ) -> Px
+    fn text_colour(&self, pipeline: u8, font: u16, colour: Px, at: Point, glyphs: &[GlyphAt]) -> Px
         requires colour { IsPixel colour }
         requires glyphs { All IsGlyph glyphs.now }
         requires reach { IsWithin (2 ^ 27) at }
@@ -145,7 +161,7 @@ impl ScenePixel<'_> {
     /// A text.
     pub(crate) fn text(
         &self,
-        l: &PlacedList<'_>,
+        placed: &PlacedList<'_>,
         spot: Spot,
         font: u16,
         colour: Px,
@@ -153,20 +169,21 @@ impl ScenePixel<'_> {
         cover: u8,
         backdrop: Px,
     ) -> Px
-        requires spot { IsSpot (length l.now.list.nodes + 1) (length l.now.list.chains) spot }
+        requires spot { IsSpot (length placed.now.list.nodes + 1) (length placed.now.list.chains) spot }
         requires colour { IsPixel colour }
         requires glyphs { All IsGlyph glyphs.now }
         requires backdrop { IsPremultiplied backdrop }
-        ensures value { result ≡ paint_primitive self.now (primitive_of l.now spot (text_kind self.now.store l.now spot.node font colour glyphs.now)) cover backdrop }
+        ensures value { result ≡ paint_primitive self.now (primitive_of placed.now spot (text_kind self.now.store placed.now spot.node font colour glyphs.now)) cover backdrop }
         ensures premultiplied { IsPremultiplied result }
     {
+        know_bytes(backdrop);
         let (node, chain) = (spot.node, spot.chain);
-        match self.rect_here(l, spot) {
+        match self.rect_here(placed, spot) {
             None => backdrop,
             Some(_) => {
-                let at = l.node_point(node);
-                let shown = self.text_colour(l.pipeline, font, colour, at, glyphs);
-                self.lay(l, chain, shown, cover, backdrop)
+                let at = placed.node_point(node);
+                let shown = self.text_colour(placed.pipeline, font, colour, at, glyphs);
+                self.lay(placed, chain, shown, cover, backdrop)
             }
         }
     }

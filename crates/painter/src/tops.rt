@@ -15,8 +15,8 @@ ghost use Rattle.painter.specs.TopItems.{Around, around_iframe, node_home, node_
 use crate::pixel::ScenePixel;
 use crate::placed_list::{PlacedList, first_corner, stands_around};
 use crate::progress::{Home, Progress};
-use blend_rules::Px;
-use display_list::{Item, Spot, tree_laws};
+use blend_rules::{Px, know_bytes};
+use display_list::{Item, Spot};
 use image_store::Store;
 use pipelines::Pipelines;
 use scene_limits::limit_laws;
@@ -32,36 +32,36 @@ struct Surroundings {
 
 impl ScenePixel<'_> {
     /// The home of a node.
-    fn home(&self, around: Surroundings, l: &PlacedList<'_>, node: u16) -> Home
-        requires { node < length l.now.list.nodes + 1 }
-        ensures { (a : Around) → a.home ≡ around.home → result ≡ node_home a l.now node }
+    fn home(&self, around: Surroundings, placed: &PlacedList<'_>, node: u16) -> Home
+        requires { node < length placed.now.list.nodes + 1 }
+        ensures { (a : Around) → a.home ≡ around.home → result ≡ node_home a placed.now node }
     {
         if around.home.is_some() {
             return around.home;
         }
-        let scroll = l.root_scroll(node)?;
-        Some((l.pipeline, scroll))
+        let scroll = placed.root_scroll(node)?;
+        Some((placed.pipeline, scroll))
     }
 
     /// A primitive or a group as a top item.
     fn top(
         &self,
         around: Surroundings,
-        l: &PlacedList<'_>,
+        placed: &PlacedList<'_>,
         node: u16,
         item: &Item,
         progress: Progress,
     ) -> Progress
-        requires node { node < length l.now.list.nodes + 1 }
-        requires item { CanPaint self.now.pipelines l.now (tree_of item.now) }
+        requires node { node < length placed.now.list.nodes + 1 }
+        requires item { CanPaint self.now.pipelines placed.now (tree_of item.now) }
         requires progress { IsProgress progress }
         ensures value { (a : Around) → a.home ≡ around.home → under self.now a.clips 255 ≡ around.cover → node ≡ node_of (tree_of item.now)
-            → result ≡ after_top self.now progress (record { around = a; list = l.now; item = tree_of item.now }) }
+            → result ≡ after_top self.now progress (record { around = a; list = placed.now; item = tree_of item.now }) }
         ensures progress { IsProgress result }
     {
-        let home = self.home(around, l, node);
+        let home = self.home(around, placed, node);
         let entered = progress.entered(home);
-        let slice = self.paint_item(l, item, around.cover, entered.slice);
+        let slice = self.paint_item(placed, item, around.cover, entered.slice);
         Progress { slice, ..entered }
     }
 
@@ -71,21 +71,21 @@ impl ScenePixel<'_> {
     fn item_tops(
         &self,
         around: Surroundings,
-        l: &PlacedList<'_>,
+        placed: &PlacedList<'_>,
         item: &Item,
         progress: Progress,
     ) -> Progress
-        requires item { CanPaint self.now.pipelines l.now (tree_of item.now) }
+        requires item { CanPaint self.now.pipelines placed.now (tree_of item.now) }
         requires progress { IsProgress progress }
         ensures value { (a : Around) → a.home ≡ around.home → under self.now a.clips 255 ≡ around.cover
-            → result ≡ fold (after_top self.now) progress (tree_tops (pipeline_tops self.now.pipelines) a l.now (tree_of item.now)) }
+            → result ≡ fold (after_top self.now) progress (tree_tops (pipeline_tops self.now.pipelines) a placed.now (tree_of item.now)) }
         ensures progress { IsProgress result }
     {
         match item {
-            Item::Solid { spot, .. } => self.top(around, l, spot.node, item, progress),
-            Item::Image { spot, .. } => self.top(around, l, spot.node, item, progress),
-            Item::Border { spot, .. } => self.top(around, l, spot.node, item, progress),
-            Item::Text { spot, .. } => self.top(around, l, spot.node, item, progress),
+            Item::Solid { spot, .. } => self.top(around, placed, spot.node, item, progress),
+            Item::Image { spot, .. } => self.top(around, placed, spot.node, item, progress),
+            Item::Border { spot, .. } => self.top(around, placed, spot.node, item, progress),
+            Item::Text { spot, .. } => self.top(around, placed, spot.node, item, progress),
             Item::Context {
                 node,
                 chain,
@@ -95,15 +95,15 @@ impl ScenePixel<'_> {
                 isolate,
                 children,
             } => {
-                let opacity = l.opacity(*prop, *opacity);
+                let opacity = placed.opacity(*prop, *opacity);
                 if stands_around(opacity, *mode, *isolate, *chain) {
-                    return self.items_tops(around, l, children, progress);
+                    return self.items_tops(around, placed, children, progress);
                 }
-                self.top(around, l, *node, item, progress)
+                self.top(around, placed, *node, item, progress)
             }
             Item::Iframe { spot, pipeline } => {
-                let origin = first_corner(l.item_rect(*spot));
-                let inside = self.inside(around, l, *spot);
+                let origin = first_corner(placed.item_rect(*spot));
+                let inside = self.inside(around, placed, *spot);
                 self.pipeline_tops(inside, *pipeline, origin, progress)
             }
             Item::HitArea { .. } => progress,
@@ -115,19 +115,19 @@ impl ScenePixel<'_> {
     fn items_tops(
         &self,
         around: Surroundings,
-        l: &PlacedList<'_>,
+        placed: &PlacedList<'_>,
         items: &[Item],
         progress: Progress,
     ) -> Progress
-        requires items { CanPaintAll self.now.pipelines l.now (trees_of items.now) }
+        requires items { CanPaintAll self.now.pipelines placed.now (trees_of items.now) }
         requires progress { IsProgress progress }
         ensures value { (a : Around) → a.home ≡ around.home → under self.now a.clips 255 ≡ around.cover
-            → result ≡ fold (after_top self.now) progress (trees_tops (pipeline_tops self.now.pipelines) a l.now (trees_of items.now)) }
+            → result ≡ fold (after_top self.now) progress (trees_tops (pipeline_tops self.now.pipelines) a placed.now (trees_of items.now)) }
         ensures progress { IsProgress result }
     {
         let mut progress = progress;
         for item in items {
-            progress = self.item_tops(around, l, item, progress);
+            progress = self.item_tops(around, placed, item, progress);
         }
         progress
     }
@@ -148,22 +148,22 @@ impl ScenePixel<'_> {
             → result ≡ fold (after_top self.now) progress (pipeline_tops self.now.pipelines pipeline origin a) }
         ensures progress { IsProgress result }
     {
-        tree_laws();
-        match self.placed(pipeline, origin) {
+        self.know();
+        match self.placed_list(pipeline, origin) {
             None => progress,
-            Some(l) => self.items_tops(around, &l, l.list.items(), progress),
+            Some(placed) => self.items_tops(around, &placed, placed.list.items(), progress),
         }
     }
 
     /// What is around the items of an Iframe.
-    fn inside(&self, around: Surroundings, l: &PlacedList<'_>, spot: Spot) -> Surroundings
-        requires { IsSpot (length l.now.list.nodes + 1) (length l.now.list.chains) spot }
-        ensures home { (a : Around) → a.home ≡ around.home → result.home ≡ (around_iframe a l.now spot).home }
-        ensures cover { (a : Around) → under self.now a.clips 255 ≡ around.cover → under self.now (around_iframe a l.now spot).clips 255 ≡ result.cover }
+    fn inside(&self, around: Surroundings, placed: &PlacedList<'_>, spot: Spot) -> Surroundings
+        requires { IsSpot (length placed.now.list.nodes + 1) (length placed.now.list.chains) spot }
+        ensures home { (a : Around) → a.home ≡ around.home → result.home ≡ (around_iframe a placed.now spot).home }
+        ensures cover { (a : Around) → under self.now a.clips 255 ≡ around.cover → under self.now (around_iframe a placed.now spot).clips 255 ≡ result.cover }
     {
         Surroundings {
-            home: self.home(around, l, spot.node),
-            cover: self.under_iframe(l, spot, around.cover),
+            home: self.home(around, placed, spot.node),
+            cover: self.under_iframe(placed, spot, around.cover),
         }
     }
 }
@@ -177,6 +177,7 @@ pub fn picture_at(pipelines: &Pipelines, store: &Store, behind: Px, x: u16, y: u
     ensures premultiplied { IsPremultiplied result }
 {
     limit_laws();
+    know_bytes(behind);
     let pixel = ScenePixel {
         pipelines,
         store,

@@ -127,7 +127,7 @@ down_moved : (b : Bounds) (by : Point) → height_of (shifted b by) ≡ height_o
 down_moved b by = ap unsigned_abs (distance_moved b.y1 b.y0 by.y)
 
 -- a border that fits a rectangle fits it where it is moved
-border_moved : (b : Bounds) (by : Point) (w : Widths) (r : Radii) → IsBorder b w r → IsBorder (shifted b by) w r
+pub border_moved : (b : Bounds) (by : Point) (w : Widths) (r : Radii) → IsBorder b w r → IsBorder (shifted b by) w r
 border_moved b by w r h =
     let a = across_moved b by in
     let d = down_moved b by in
