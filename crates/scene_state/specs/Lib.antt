@@ -3,3 +3,4 @@ pub mod StoreFaults
 pub mod Operations
 pub mod Outcome
 pub mod Limits
+pub mod Picture

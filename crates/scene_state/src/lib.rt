@@ -5,10 +5,12 @@
 mod draft;
 mod error;
 mod limits;
+mod paint;
 mod policy;
 mod scene;
 
 pub use error::ApplyError;
 pub use limits::MAX_STORED_PIXELS;
+pub use paint::paint_at;
 pub use policy::Policy;
 pub use scene::{Scene, know_scene};
