@@ -1,7 +1,5 @@
-pub mod Members
-pub mod Operations
-pub mod Blocks
-pub mod Frames
 pub mod Statuses
 pub mod Replays
+pub mod Marks
+pub mod Pixels
 pub mod Refusals

@@ -1,54 +1,61 @@
--- A payload and a list are refused with their first faults.
-use Rattle.std.proofs.Common.{◌≡◌, ℕ, ◌+◌, Bool, true, ◌&&◌, eqb, cond, List, [], ◌∷◌, ◌++◌, Result, Ok, Err, refl, ap, ◌∙◌}
+-- How payloads are answered that are refused, and that are accepted.
+use Rattle.std.proofs.Common.{◌≡◌, ℕ, ◌+◌, Bool, cond, false, List, [], ◌∷◌, ◌++◌, Result, Ok, Err, refl, ap, ◌∙◌}
 use Rattle.wr_io.specs.declared.fault.Code.{Code}
 use Rattle.wr_io.specs.declared.fault.Fault.{Fault}
 use Rattle.field_forms.specs.Form.{next, fault}
-use Rattle.field_forms.specs.Outcome.{moved}
-use Rattle.field_forms.proofs.Forms.{next_ok}
 use Rattle.display_list.specs.ListModel.{ListModel}
 use Rattle.display_list.proofs.ReadLists.{first_read}
 use Rattle.txn_format.specs.Txn.{PlacedModel, TxnModel, set_list}
-use Rattle.txn_format.specs.Grammar.{IsFirstTxnFault}
+use Rattle.txn_format.specs.Grammar.{TxnSpells, IsFirstTxnFault}
 use Rattle.txn_format.proofs.WholeTxns.{txn_again, fault_again}
-use Rattle.frame_replay.specs.Resolve.{TransactionModel, all_built, not_built, resolve, resolve_op, resolve_ops, resolve_payload, solid_list}
-use Rattle.frame_replay.specs.Output.{record_for, scene_for}
-use Rattle.frame_replay.specs.Laws.{IsRefusedWith, SendsFaultyList}
-use Rattle.frame_replay.specs.declared.scene.Operation.{Operation}
-use Rattle.frame_replay.specs.declared.scene.Operation.TheVariants.{SetList}
-use Rattle.frame_replay.specs.declared.scene.Scene.{Scene}
+use Rattle.scene_state.specs.SceneModel.{SceneModel}
+use Rattle.scene_state.specs.Operations.{Next, after_op, after_ops, then_next, where_read}
+use Rattle.scene_state.specs.Limits.{next_scene, limit_of, where_none}
+use Rattle.frame_replay.specs.Frame.{frame_record}
+use Rattle.frame_replay.specs.Answer.{ReplayState, Accepted, accepted, with_frame, record_for, state_for}
+use Rattle.frame_replay.specs.Laws.{IsRefusedWith, IsAccepted, SendsFaultyList}
 
-abbrev ok_ops : List Operation → Result (List Operation) Fault
-ok_ops os = Ok os
+-- what follows a transaction that was read, or not
+abbrev after_read : ReplayState → Result TxnModel Fault → Result Accepted Fault
+after_read state read = next read (λ txn. with_frame txn.frame (next_scene txn state.0 state.1))
 
-refused_with : (payload : List ℕ) (scene : Scene) (c : Code) (p : ℕ) → resolve_payload payload ≡ fault c p → IsRefusedWith payload scene c p
-refused_with payload scene c p e = record {
-  refusal = ap (λ (r : Result TransactionModel Fault). record_for r scene) e;
-  stays = ap (λ (r : Result TransactionModel Fault). scene_for r scene) e;
-}
+refused_with : (payload : List ℕ) (state : ReplayState) (c : Code) (p : ℕ) → accepted payload state ≡ fault c p → IsRefusedWith payload state c p
+refused_with payload state c p e = record { refusal = ap record_for e; stays = ap (λ (r : Result Accepted Fault). state_for r state) e }
 
-pub first_fault : (payload : List ℕ) (scene : Scene) (c : Code) (p : ℕ) → IsFirstTxnFault payload c p → IsRefusedWith payload scene c p
-first_fault payload scene c p h = refused_with payload scene c p (ap (λ (r : Result TxnModel Fault). next r resolve) (fault_again payload c p h))
+pub first_fault : (payload : List ℕ) (state : ReplayState) (c : Code) (p : ℕ) → IsFirstTxnFault payload c p → IsRefusedWith payload state c p
+first_fault payload state c p h = refused_with payload state c p (ap (after_read state) (fault_again payload c p h))
 
--- one that is refused, after others that are done, refuses all
-refused_after : (before after : List PlacedModel) (q : PlacedModel) (done : List Operation) (f : Fault) → resolve_ops before ≡ Ok done → resolve_op q.at q.op ≡ Err f
-    → resolve_ops (before ++ q ∷ after) ≡ Err f
-refused_after [] after q done f e r = ap (λ (x : Result Operation Fault). next x (λ o. next (resolve_ops after) (λ os. ok_ops (o ∷ os)))) r
-refused_after (b ∷ before) after q done f e r =
-    let one = next_ok (resolve_op b.at b.op) (λ o. next (resolve_ops before) (λ os. ok_ops (o ∷ os))) done e in
-    let others = next_ok (resolve_ops before) (λ os. ok_ops (one.0 ∷ os)) done one.2 in
-    ap (λ (x : Result Operation Fault). next x (λ o. next (resolve_ops (before ++ q ∷ after)) (λ os. ok_ops (o ∷ os)))) one.1
-    ∙ ap (λ (x : Result (List Operation) Fault). next x (λ os. ok_ops (one.0 ∷ os))) (refused_after before after q others.0 f others.1 r)
+pub scene_fault : (payload : List ℕ) (txn : TxnModel) (state : ReplayState) (c : Code) (p : ℕ) → TxnSpells txn payload → next_scene txn state.0 state.1 ≡ Err (record { code = c; at = p }) → IsRefusedWith payload state c p
+scene_fault payload txn state c p spelled e =
+    refused_with payload state c p (ap (after_read state) (txn_again txn payload spelled) ∙ ap (with_frame txn.frame) e)
 
-pub list_fault : (payload : List ℕ) (scene : Scene) (at : ℕ) (c : Code) (p : ℕ) → SendsFaultyList payload at c p → IsRefusedWith payload scene c (at + 9 + p)
-list_fault payload scene at c p h =
-    let sent : PlacedModel = record { at = at; op = set_list h.epoch h.bytes } in
-    let list : resolve_op at (set_list h.epoch h.bytes) ≡ fault c (at + 9 + p) =
-    ap (λ (r : Result ListModel Fault). next (next (moved (at + 9) r) (solid_list h.epoch)) (λ l. Ok (SetList l))) (first_read 0 h.bytes c p h.faulty) in
-    let ops : resolve_ops h.txn.ops ≡ fault c (at + 9 + p) = ap resolve_ops h.ops_are ∙ refused_after h.before h.after sent h.done _ h.resolved list in
-    let test : eqb h.txn.pipeline 0 && all_built h.txn.ops ≡ true = rw (h.of_root, h.built) refl in
-    let built : resolve h.txn ≡ next (resolve_ops h.txn.ops) (λ os. Ok (record { frame = h.txn.frame; operations = os })) =
-    ap (λ (b : Bool). cond b (next (resolve_ops h.txn.ops) (λ os. Ok (record { frame = h.txn.frame; operations = os }))) not_built) test in
-    refused_with payload scene c (at + 9 + p) (
-    ap (λ (r : Result TxnModel Fault). next r resolve) (txn_again h.txn payload h.spelled) ∙ built
-    ∙ ap (λ (r : Result (List Operation) Fault). next r (λ os. Ok (record { frame = h.txn.frame; operations = os }))) ops
-    )
+-- what follows a success
+next_made : (made : Next) (follows : SceneModel → ℕ → Next) (end : ReplayState) → then_next made follows ≡ Ok end → (one : ReplayState) × (made ≡ Ok one) × (follows one.0 one.1 ≡ Ok end)
+next_made (Ok one) follows end e = (one, refl, e)
+next_made (Err f) follows end e = absurd cc
+
+-- an operation that is refused, after others that are applied, refuses all
+refused_after : (pipeline : ℕ) (before after : List PlacedModel) (op : PlacedModel) (s : SceneModel) (last : ℕ) (made : ReplayState) (f : Fault) → after_ops pipeline before s last ≡ Ok made
+    → ((s : SceneModel) (last : ℕ) → after_op pipeline op.at op.op s last ≡ Err f) → after_ops pipeline (before ++ op ∷ after) s last ≡ Err f
+refused_after pipeline [] after op s last made f e refused = ap (λ (n : Next). then_next n (after_ops pipeline after)) (refused s last)
+refused_after pipeline (b ∷ before) after op s last made f e refused =
+    let one = next_made (after_op pipeline b.at b.op s last) (after_ops pipeline before) made e in
+    ap (λ (n : Next). then_next n (after_ops pipeline (before ++ op ∷ after))) one.1 ∙ refused_after pipeline before after op one.0.0 one.0.1 made f one.2 refused
+
+pub list_fault : (payload : List ℕ) (state : ReplayState) (at : ℕ) (c : Code) (p : ℕ) → SendsFaultyList payload state at c p → IsRefusedWith payload state c (at + 9 + p)
+list_fault payload state at c p h =
+    let t = h.txn in
+    let op : PlacedModel = record { at = at; op = set_list h.epoch h.bytes } in
+    let refused : (s : SceneModel) (last : ℕ) → after_op t.pipeline at (set_list h.epoch h.bytes) s last ≡ fault c (at + 9 + p) =
+    λ s last. ap (λ (r : Result ListModel Fault). where_read t.pipeline (at + 9) h.epoch r s last) (first_read t.pipeline h.bytes c p h.faulty) in
+    let ops : after_ops t.pipeline t.ops state.0 state.1 ≡ fault c (at + 9 + p) =
+    ap (λ (ops : List PlacedModel). after_ops t.pipeline ops state.0 state.1) h.ops_are ∙ refused_after t.pipeline h.before h.after op state.0 state.1 h.made (record { code = c; at = at + 9 + p }) h.applied refused in
+    scene_fault payload t state c (at + 9 + p) h.spelled (ap (λ (n : Next). then_next n (λ made counter. where_none (limit_of made) t.len made counter)) ops)
+
+pub accepted_answer : (payload : List ℕ) (txn : TxnModel) (state after : ReplayState) → TxnSpells txn payload → txn.frame ≡ false → next_scene txn state.0 state.1 ≡ Ok after → IsAccepted payload state after
+accepted_answer payload txn state after spelled off e =
+    let made : accepted payload state ≡ Ok (record { frame = txn.frame; state = after }) = ap (after_read state) (txn_again txn payload spelled) ∙ ap (with_frame txn.frame) e in
+    record {
+      answer = ap record_for made ∙ ap (λ (b : Bool). cond b (frame_record after.0) (65 ∷ [])) off;
+      made = ap (λ (r : Result Accepted Fault). state_for r state) made;
+    }

@@ -3,7 +3,7 @@ use Rattle.std.specs.Prelude.{ℕ, List, [], ◌∷◌, map, codes, if◌then◌
 use Rattle.std.specs.Global.{Global}
 use Rattle.std.specs.Str.{bytes_eq}
 use Rattle.std.specs.String.{string_bytes}
-use Rattle.frame_replay.specs.Output.{replayed}
+use Rattle.frame_replay.specs.Answer.{replayed}
 use Rattle.frame_replay.specs.Outcome.{Outcome, Completes}
 use Rattle.frame_replay.specs.declared.program.Command.{Command}
 use Rattle.frame_replay.specs.declared.program.Command.TheVariants.{Replay}

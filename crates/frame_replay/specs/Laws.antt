@@ -1,42 +1,62 @@
 -- Laws of what commands write.
-use Rattle.std.specs.Prelude.{◌≡◌, ℕ, ◌+◌, List, ◌∷◌, ◌++◌, true, None, Ok}
+use Rattle.std.specs.Prelude.{◌≡◌, ◌↔◌, ℕ, ◌+◌, List, [], ◌∷◌, ◌++◌, false, IsTrue, None, Ok, Err}
 use Rattle.wr_io.specs.declared.fault.Code.{Code}
 use Rattle.display_list.specs.Grammar.{IsFirstFault}
 use Rattle.txn_format.specs.Txn.{PlacedModel, TxnModel, set_list}
 use Rattle.txn_format.specs.Grammar.{TxnSpells, IsFirstTxnFault}
-use Rattle.frame_replay.specs.Resolve.{all_built, resolve_ops}
-use Rattle.frame_replay.specs.Output.{refusal_record, record_of, next_scene, replayed}
-use Rattle.frame_replay.specs.declared.scene.Operation.{Operation}
-use Rattle.frame_replay.specs.declared.scene.Scene.{Scene}
+use Rattle.scene_limits.specs.Drawn.{IsDrawn}
+use Rattle.scene_state.specs.SceneModel.{SceneModel}
+use Rattle.scene_state.specs.Limits.{IsScene, next_scene}
+use Rattle.scene_state.specs.Operations.{after_ops}
+use Rattle.frame_replay.specs.Drawn.{is_pipeline_drawn}
+use Rattle.frame_replay.specs.Answer.{ReplayState, refusal_record, record_of, next_state, replayed}
 
 -- `replay` refuses no transaction with a status of its own, whatever the transactions are.
 abbrev pub ReplayRefusesNone : Type 0
 ReplayRefusesNone = (payloads : List (List ℕ)) → replayed.refusal payloads ≡ None
 
--- a payload is answered by a refusal, and leaves the scene
-pub record IsRefusedWith (payload : List ℕ) (scene : Scene) (c : Code) (p : ℕ) : Type 0 where
-  pub refusal : record_of payload scene ≡ refusal_record c p
-  pub stays : next_scene payload scene ≡ scene
+-- a payload is answered by a refusal, and leaves the state
+pub record IsRefusedWith (payload : List ℕ) (state : ReplayState) (c : Code) (p : ℕ) : Type 0 where
+  pub refusal : record_of payload state ≡ refusal_record c p
+  pub stays : next_state payload state ≡ state
 
 -- A payload that spells no transaction is refused with its first fault.
 abbrev pub FirstFaultIsAnswered : Type 0
-FirstFaultIsAnswered = (payload : List ℕ) (scene : Scene) (c : Code) (p : ℕ) → IsFirstTxnFault payload c p → IsRefusedWith payload scene c p
+FirstFaultIsAnswered = (payload : List ℕ) (state : ReplayState) (c : Code) (p : ℕ) → IsFirstTxnFault payload c p → IsRefusedWith payload state c p
 
--- The payload spells a transaction that is built, the operation at a position sets a list with a fault, and those before it are done.
-pub record SendsFaultyList (payload : List ℕ) (at : ℕ) (c : Code) (p : ℕ) : Type 0 where
+-- A transaction without a next scene is refused with the fault that is there in its place.
+abbrev pub SceneFaultIsAnswered : Type 0
+SceneFaultIsAnswered =
+    (payload : List ℕ) (txn : TxnModel) (state : ReplayState) (c : Code) (p : ℕ) → TxnSpells txn payload → next_scene txn state.0 state.1 ≡ Err (record { code = c; at = p })
+    → IsRefusedWith payload state c p
+
+-- The payload spells a transaction, the operation at a position sets a list with a fault, and those before it are applied.
+pub record SendsFaultyList (payload : List ℕ) (state : ReplayState) (at : ℕ) (c : Code) (p : ℕ) : Type 0 where
   pub txn : TxnModel
   pub spelled : TxnSpells txn payload
-  pub of_root : txn.pipeline ≡ 0
-  pub built : all_built txn.ops ≡ true
   pub before : List PlacedModel
   pub after : List PlacedModel
   pub epoch : ℕ
   pub bytes : List ℕ
   pub ops_are : txn.ops ≡ before ++ record { at = at; op = set_list epoch bytes } ∷ after
-  pub done : List Operation
-  pub resolved : resolve_ops before ≡ Ok done
-  pub faulty : IsFirstFault 0 bytes c p
+  pub made : ReplayState
+  pub applied : after_ops txn.pipeline before state.0 state.1 ≡ Ok made
+  pub faulty : IsFirstFault txn.pipeline bytes c p
 
 -- It is refused with the list's first fault, whose position is counted from the payload's first byte: the list begins nine bytes after the operation's tag.
 abbrev pub ListFaultIsAnswered : Type 0
-ListFaultIsAnswered = (payload : List ℕ) (scene : Scene) (at : ℕ) (c : Code) (p : ℕ) → SendsFaultyList payload at c p → IsRefusedWith payload scene c (at + 9 + p)
+ListFaultIsAnswered = (payload : List ℕ) (state : ReplayState) (at : ℕ) (c : Code) (p : ℕ) → SendsFaultyList payload state at c p → IsRefusedWith payload state c (at + 9 + p)
+
+-- a payload is answered by A alone, and makes the next state
+pub record IsAccepted (payload : List ℕ) (state after : ReplayState) : Type 0 where
+  pub answer : record_of payload state ≡ 65 ∷ []
+  pub made : next_state payload state ≡ after
+
+-- So is a transaction that has a next scene and asks for no frame.
+abbrev pub AcceptedIsAnswered : Type 0
+AcceptedIsAnswered =
+    (payload : List ℕ) (txn : TxnModel) (state after : ReplayState) → TxnSpells txn payload → txn.frame ≡ false → next_scene txn state.0 state.1 ≡ Ok after → IsAccepted payload state after
+
+-- The pipelines that are listed are the root where it has a list, and those that have a list and that an Iframe of one that is drawn names.
+abbrev pub DrawnAreDrawn : Type 0
+DrawnAreDrawn = (s : SceneModel) (p : ℕ) → IsScene s → IsTrue (is_pipeline_drawn s.pipelines p) ↔ IsDrawn s.pipelines p

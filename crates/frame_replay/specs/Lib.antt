@@ -1,8 +1,6 @@
-pub mod Models
-pub mod Scene
-pub mod Resolve
-pub mod Painting
-pub mod Output
+pub mod Drawn
+pub mod Frame
+pub mod Answer
 pub mod Outcome
 pub mod Commands
 pub mod Laws

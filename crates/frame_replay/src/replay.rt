@@ -1,39 +1,38 @@
 //! The command `replay`: payloads answered by frames.
 
-ghost use Rattle.std.specs.Prelude.{◌≡◌};
-ghost use Rattle.frame_replay.specs.declared.scene.Scene.{Scene};
-ghost use Rattle.frame_replay.specs.Scene.{start_scene};
-ghost use Rattle.frame_replay.specs.Output.{replaying};
+ghost use Rattle.std.specs.Prelude.{◌≡◌, ℕ};
+ghost use Rattle.scene_state.specs.SceneModel.{SceneModel};
+ghost use Rattle.frame_replay.specs.Answer.{replaying, start_state};
 
-use crate::output::answer;
-use crate::scene::Scene;
-use blend_rules::Px;
+use crate::answer::answer;
+use image_store::Gens;
 use record_frame::{AnswerError, AnswerPayload};
+use scene_state::Scene;
 use std::alloc::Global;
 
-/// A replay: the scene that is kept between transactions, and memory that is used again.
-#[derive(Debug, Drop)]
+/// A replay: what is kept between transactions.
+#[derive(Drop)]
 pub(crate) struct Replay {
     scene: Scene,
-    block: Vec<Px>,
+    gens: Gens,
 }
 
 impl Replay {
     /// At the start of an input.
     pub(crate) fn new(alloc: Global) -> Replay
-        ensures { result.scene ≡ start_scene }
+        ensures { (result.scene, result.gens) ≡ start_state }
     {
         Replay {
-            scene: Scene::start(),
-            block: Vec::new(alloc),
+            scene: Scene::start(alloc),
+            gens: Gens::new(),
         }
     }
 }
 
 impl AnswerPayload for Replay {
-    ghost State = { Scene };
+    ghost State = { SceneModel × ℕ };
 
-    ghost state = { λ replay. replay.scene };
+    ghost state = { λ replay. (replay.scene, replay.gens) };
 
     ghost rule = { replaying };
 
@@ -43,7 +42,7 @@ impl AnswerPayload for Replay {
         payload: &[u8],
         out: &mut Vec<u8>,
     ) -> Result<(), AnswerError> {
-        answer(alloc, payload, &mut self.scene, &mut self.block, out)?;
+        answer(alloc, payload, &mut self.scene, &mut self.gens, out)?;
         Ok(())
     }
 }

@@ -1,6 +1,6 @@
-use Rattle.frame_replay.specs.Scene.{start_scene}
+use Rattle.frame_replay.specs.Answer.{start_state}
 use Rattle.frame_replay.proofs.Replays.{none_refused}
 use Rattle.frame_replay.proofs.laws.replay_laws.Goals as goal
 
 pub returns : goal.returns
-returns c payloads = none_refused payloads start_scene
+returns c payloads = none_refused payloads start_state

@@ -1,7 +1,7 @@
 use Rattle.std.proofs.Common.{ℕ, List, Option}
 use Rattle.record_frame.proofs.FirstRecords.{transactions_form}
 use Rattle.record_frame.proofs.Takings.{weaker}
-use Rattle.frame_replay.specs.Output.{replayed}
+use Rattle.frame_replay.specs.Answer.{replayed}
 use Rattle.frame_replay.specs.Outcome.{Outcome}
 use Rattle.frame_replay.specs.Commands.{leaves}
 use Rattle.frame_replay.specs.declared.program.Command.{Command}
