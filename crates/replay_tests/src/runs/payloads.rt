@@ -20,14 +20,12 @@ fn record(rt: &HostRuntime, payload: &[u8]) -> Result<Vec<u8>, Fail> {
 
 #[test]
 fn heads(rt: HostRuntime) -> Result<(), Fail> {
-    let cases: [(&[u8], u8, u8); 6] = [
+    let cases: [(&[u8], u8, u8); 5] = [
         (&[64, 2], 3, 0),
         (&[63, 2], 3, 1),
         (&[0], 2, 1),
         (&[0, 1, 0], 2, 2),
         (&[0, 1, 0, 0, 0], 14, 4),
-        // Another pipeline isn't built yet.
-        (&[63, 1, 0, 0], 255, 0),
     ];
     for (payload, code, at) in cases {
         assert_eq!(rt;
@@ -40,14 +38,21 @@ fn heads(rt: HostRuntime) -> Result<(), Fail> {
 }
 
 #[test]
+fn accepted(rt: HostRuntime) -> Result<(), Fail> {
+    // A frame that another pipeline asks for, and the removal of a pipeline that has nothing.
+    let frame = [70, 1, 0, 1, 0, 0, 0, 0, 0, 0];
+    assert_eq!(rt; record(&rt, &[63, 1, 0, 0])?.as_slice(), frame.as_slice());
+    assert_eq!(rt; record(&rt, &[0, 0, 1, 0, 2])?.as_slice(), b"A".as_slice());
+    Ok(())
+}
+
+#[test]
 fn tags(rt: HostRuntime) -> Result<(), Fail> {
-    let cases: [(&[u8], u8, u8); 5] = [
+    let cases: [(&[u8], u8, u8); 4] = [
         (&[0, 0, 1, 0], 2, 4),
         (&[0, 0, 1, 0, 0], 1, 4),
         (&[1, 0, 1, 0, 13], 1, 4),
         (&[1, 0, 1, 0, 10], 9, 4),
-        // The pipeline's removal, which isn't built yet.
-        (&[0, 0, 1, 0, 2], 255, 0),
     ];
     for (payload, code, at) in cases {
         assert_eq!(rt;
