@@ -5,6 +5,7 @@ use std::test::Fail;
 use wr_io::{MemSink, MemSource};
 
 mod causes;
+mod drawn;
 mod files;
 mod frames;
 mod payloads;
