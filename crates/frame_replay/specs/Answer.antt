@@ -36,10 +36,14 @@ accepted payload state = next (txn_at payload) (λ txn. with_frame txn.frame (ne
 abbrev pub refusal_record : Code → ℕ → List ℕ
 refusal_record code at = 88 ∷ (code_number code ∷ u32_bytes at)
 
+-- a frame where one is asked for, or else A
+abbrev pub accepted_record : Bool → SceneModel → List ℕ
+accepted_record frame s = if frame then frame_record s else 65 ∷ []
+
 -- a refusal, a frame where one is asked for, or else that the transaction is accepted
 abbrev pub record_for : Result Accepted Fault → List ℕ
 record_for (Err fault) = refusal_record fault.code fault.at
-record_for (Ok made) = if made.frame then frame_record made.state.0 else 65 ∷ []
+record_for (Ok made) = accepted_record made.frame made.state.0
 
 -- the state after a transaction; a refused one leaves it
 abbrev pub state_for : Result Accepted Fault → ReplayState → ReplayState

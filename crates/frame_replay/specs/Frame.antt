@@ -20,8 +20,12 @@ row_pixels s y count = map (λ x. pixel_at s x y) (range_with_len 0 count)
 unfoldable pub row_by_row : {A : Type 0} → ℕ → ℕ → (ℕ → ℕ → A) → List A
 row_by_row width height f = flat_map (λ y. map (λ x. f x y) (range_with_len 0 width)) (range_with_len 0 height)
 
+-- the pixels of the view
+abbrev pub view_pixels : SceneModel → List Px
+view_pixels s = row_by_row s.view.0 s.view.1 (pixel_at s)
+
 -- the view's sides, the pipelines that are drawn, and the pixels
 unfoldable pub frame_record : SceneModel → List ℕ
 frame_record s =
     70 ∷ (u16_bytes s.view.0 ++ (u16_bytes s.view.1 ++ (drawn_bytes (drawn_pipelines s)
-    ++ flat_map colour_bytes (row_by_row s.view.0 s.view.1 (pixel_at s)))))
+    ++ flat_map colour_bytes (view_pixels s))))

@@ -1,10 +1,9 @@
 //! The record that answers a transaction, and the state after it.
 
-ghost use Rattle.std.specs.Prelude.{◌≡◌, ◌++◌, ◌≤◌, ◌^◌, ◌∷◌, [], length, OnErr, OnOk, if◌then◌else◌};
+ghost use Rattle.std.specs.Prelude.{◌≡◌, ◌++◌, ◌≤◌, ◌^◌, length, OnErr, OnOk};
 ghost use Rattle.txn_format.specs.Grammar.{txn_at};
 ghost use Rattle.scene_state.specs.Outcome.{Answers};
-ghost use Rattle.frame_replay.specs.Frame.{frame_record};
-ghost use Rattle.frame_replay.specs.Answer.{accepted, next_state, record_of, refusal_record};
+ghost use Rattle.frame_replay.specs.Answer.{accepted, accepted_record, next_state, record_of, refusal_record};
 
 use crate::frame::put_frame;
 use field_forms::{put_byte, put_u32};
@@ -24,7 +23,7 @@ fn put_refusal(out: &mut Vec<u8>, fault: Fault) -> Result<(), AllocError>
 
 /// Appends the record of an accepted transaction: the scene's frame where it asks for one.
 fn put_accepted(out: &mut Vec<u8>, scene: &Scene, frame: bool) -> Result<(), AllocError>
-    ensures { OnOk result (out.new.items ≡ out.old.items ++ (if frame then frame_record scene.now else 65 ∷ [])) }
+    ensures { OnOk result (out.new.items ≡ out.old.items ++ accepted_record frame scene.now) }
 {
     if frame {
         return put_frame(out, scene);
@@ -53,7 +52,8 @@ fn apply(
     gens: &mut Gens,
 ) -> Result<(Scene, bool), ApplyError>
     requires { length payload.now ≤ 2 ^ 26 }
-    ensures made { Answers (λ made. record { frame = made.1; state = (made.0, gens.new) }) result (accepted payload.now (scene.now, gens.old)) }
+    ensures made { Answers (λ made. record { frame = made.1; state = (made.0, gens.new) }) result
+        (accepted payload.now (scene.now, gens.old)) }
     ensures counter { OnErr result (gens.new ≡ gens.old) }
 {
     let txn = read(alloc, payload)?;

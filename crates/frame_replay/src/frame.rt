@@ -3,7 +3,7 @@
 ghost use Rattle.std.specs.Prelude.{◌≡◌, ◌<◌, ◌++◌, OnOk};
 ghost use Rattle.std.specs.List.{flat_map};
 ghost use Rattle.blend_rules.specs.Colour.{colour_bytes};
-ghost use Rattle.frame_replay.specs.Frame.{frame_record, pixel_at, row_by_row, row_pixels};
+ghost use Rattle.frame_replay.specs.Frame.{frame_record, row_pixels, view_pixels};
 
 use crate::drawn::put_drawn;
 use field_forms::{put_byte, put_colour, put_u16};
@@ -32,7 +32,7 @@ fn put_row(out: &mut Vec<u8>, scene: &Scene, y: u16) -> Result<(), AllocError>
 
 /// Appends the pixels of the view, row by row from the top.
 fn put_pixels(out: &mut Vec<u8>, scene: &Scene) -> Result<(), AllocError>
-    ensures { OnOk result (out.new.items ≡ out.old.items ++ flat_map colour_bytes (row_by_row scene.now.view.0 scene.now.view.1 (pixel_at scene.now))) }
+    ensures { OnOk result (out.new.items ≡ out.old.items ++ flat_map colour_bytes (view_pixels scene.now)) }
 {
     let (_, height) = scene.view();
     for y in 0..height {
