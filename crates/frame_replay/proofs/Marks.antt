@@ -7,7 +7,7 @@ use Rattle.std.proofs.lemmas.List.Folds.{list_any_at}
 use Rattle.std.proofs.lemmas.List.FromFn.{length-range_with_len, get_or-range_with_len}
 use Rattle.pipelines.specs.Table.{PipelineMap, AreFit}
 use Rattle.scene_limits.specs.Drawn.{IsDrawn, root, named, has_list, is_drawn, names}
-use Rattle.scene_limits.proofs.Frames.{names_above, or-true}
+use Rattle.scene_limits.proofs.Iframes.{names_above, or-true}
 use Rattle.scene_limits.proofs.Marking.{drawn_low}
 use Rattle.frame_replay.specs.Drawn.{MarkDrawn, drawn_below, drawn_epoch, entry_bytes, is_drawn_through, is_pipeline_drawn, numbered}
 
