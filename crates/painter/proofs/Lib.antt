@@ -1,3 +1,9 @@
 pub mod Enough
 pub mod Reaching
 pub mod Slicing
+pub mod Pixels
+pub mod Unchanged
+pub mod Contexts
+pub mod Levels
+pub mod TopColours
+pub mod Runs
