@@ -29,7 +29,7 @@ use Rattle.primitives.specs.declared.kind.Kind.TheVariants as kind
 use Rattle.primitives.specs.PrimitiveModel.{PrimitiveModel}
 use Rattle.primitives.specs.Colours.{primitive_colour}
 use Rattle.primitives.proofs.Colours.{colour_outside}
-use Rattle.painter.specs.PlacedList.{PlacedList, placed_at, node_point, item_rect, chain_clips, first_corner, iframe_clips, opacity_of, is_none, is_normal, is_plain}
+use Rattle.painter.specs.PlacedList.{PlacedList, placed_at, node_point, item_rect, chain_clips, first_corner, iframe_clips, opacity_of, is_none, is_normal, stands_around, is_plain}
 use Rattle.painter.specs.Painter.{ScenePixel, ListPainter, image_kind, text_kind, primitive_of, under, paint_primitive, paint_group, paint_tree, paint_trees, paint_list, paint_levels, paint_pipeline}
 use Rattle.painter.specs.TopItems.{Around, TopItem, around_iframe, tree_tops, list_tops, tops_in, pipeline_tops}
 use Rattle.painter.specs.Laws.{AreByteOpacities, IsScenePixel, IsItemOf, GivesPixels, primitive_spot, own_chain, PrimitiveStaysInside, ItemStaysInside, IframeStaysInside}
@@ -91,8 +91,8 @@ iframe_none s l spot cover e =
     chain-append (chain_clips l spot.chain) last cover s.x s.y ∙ ap (λ (c : ℕ). chain_coverage last c s.x s.y) e ∙ chain_zero last s.x s.y
 
 either_is : (b : Bool) (p q backdrop : Px) → (b ≡ true → p ≡ backdrop) → (b ≡ false → q ≡ backdrop) → (if b then p else q) ≡ backdrop
-either_is true p q backdrop yes no = yes refl
-either_is false p q backdrop yes no = no refl
+either_is true p q backdrop f g = f refl
+either_is false p q backdrop f g = g refl
 
 mutual
   clipped_tree : (inner : ListPainter) (s : ScenePixel) (n k : ℕ) (l : PlacedList) (t : Tree) (cover : ℕ) (backdrop : Px) → IsStore s.store → AreByteOpacities l.moves → IsTree n k t → GivesPixels inner → LeavesUnderNone inner
