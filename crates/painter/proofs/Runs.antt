@@ -11,24 +11,28 @@ use Rattle.painter.proofs.Slicing.{home_same, runs_joined}
 
 -- ---- runs
 
+-- top items with the home of the first
+abbrev run_with : TopItem → List TopItem → Slice
+run_with t ts = record { home = home_of t; tops = t ∷ ts }
+
 -- a top item alone is a run
-alone_is : (t : TopItem) → IsRun (record { home = home_of t; tops = t ∷ [] })
+alone_is : (t : TopItem) → IsRun (run_with t [])
 alone_is t = record { some = λ e. cc; home = All-cons (λ x. home_of x ≡ home_of t) t [] refl (All-nil (λ x. home_of x ≡ home_of t)) }
 
 -- and one before a run of its home
-longer_is : (t : TopItem) (r : Slice) → same_home (home_of t) r.home ≡ true → IsRun r → IsRun (record { home = home_of t; tops = t ∷ r.tops })
+longer_is : (t : TopItem) (r : Slice) → same_home (home_of t) r.home ≡ true → IsRun r → IsRun (run_with t r.tops)
 longer_is t r e is =
     let same : home_of t ≡ r.home = home_same (home_of t) r.home e in
     record { some = λ e. cc; home = All-cons (λ x. home_of x ≡ home_of t) t r.tops refl (subst (λ h. All (λ x. home_of x ≡ h) r.tops) (sym same) is.home) }
 
 -- one top item more before runs
 before_are : (t : TopItem) (rs : List Slice) → All IsRun rs → All IsRun (before_runs t rs)
-before_are t [] are = All-cons IsRun _ [] (alone_is t) are
+before_are t [] are = All-cons IsRun (run_with t []) [] (alone_is t) are
 before_are t (r ∷ rs) are = by_test (same_home (home_of t) r.home) refl
   where
     by_test : (b : Bool) → same_home (home_of t) r.home ≡ b → All IsRun (before_runs t (r ∷ rs))
-    by_test true e = rw e (All-cons IsRun _ rs (longer_is t r e (All-head IsRun r rs are)) (All-tail IsRun r rs are))
-    by_test false e = rw e (All-cons IsRun _ (r ∷ rs) (alone_is t) are)
+    by_test true e = rw e (All-cons IsRun (run_with t r.tops) rs (longer_is t r e (All-head IsRun r rs are)) (All-tail IsRun r rs are))
+    by_test false e = rw e (All-cons IsRun (run_with t []) (r ∷ rs) (alone_is t) are)
 
 pub runs_are : RunsHaveOneHome
 runs_are [] = All-nil IsRun
@@ -67,8 +71,8 @@ before_differ t [] other = tt
 before_differ t (r ∷ rs) other = by_test (same_home (home_of t) r.home) refl
   where
     by_test : (b : Bool) → same_home (home_of t) r.home ≡ b → HaveOtherHomes (before_runs t (r ∷ rs))
-    by_test true e = rw e (side_by_side _ rs (subst (λ h. StartsOther h rs) (sym (home_same (home_of t) r.home e)) (first_of r rs other)) (rest_of r rs other))
-    by_test false e = rw e (side_by_side _ (r ∷ rs) (home_other (home_of t) r.home e) other)
+    by_test true e = rw e (side_by_side (run_with t r.tops) rs (subst (λ h. StartsOther h rs) (sym (home_same (home_of t) r.home e)) (first_of r rs other)) (rest_of r rs other))
+    by_test false e = rw e (side_by_side (run_with t []) (r ∷ rs) (home_other (home_of t) r.home e) other)
 
 pub runs_differ : RunsHaveOtherHomes
 runs_differ [] = tt

@@ -62,7 +62,8 @@ abbrev Paints : ScenePixel → ℕ → TopLister → ListPainter → Type 0
 Paints s own tops inner =
     (q : ℕ) (origin : Point) (a : Around) (backdrop : Px) → own < q → q ≤ 63 → paint_tops s (tops q origin a) backdrop ≡ inner q origin (under s a.clips 255) backdrop
 
-either_paints : (s : ScenePixel) (b : Bool) (xs ys : List TopItem) (backdrop p q : Px) → paint_tops s xs backdrop ≡ p → paint_tops s ys backdrop ≡ q → paint_tops s (if b then xs else ys) backdrop ≡ (if b then p else q)
+either_paints : (s : ScenePixel) (b : Bool) (xs ys : List TopItem) (backdrop p q : Px) → paint_tops s xs backdrop ≡ p → paint_tops s ys backdrop ≡ (if b then p else q)
+    → paint_tops s (if b then xs else ys) backdrop ≡ (if b then p else q)
 either_paints s true xs ys backdrop p q e f = e
 either_paints s false xs ys backdrop p q e f = f
 
@@ -79,11 +80,9 @@ mutual
   tree_paints s own n k a l (text o i px gs) backdrop h is above = refl
   tree_paints s own n k a l (context p ts) backdrop h is above =
       let cover = under s a.clips 255 in
-      by_test (is_plain l p) refl
-      where
-        by_test : (b : Bool) → is_plain l p ≡ b → paint_tops s (tree_tops (pipeline_tops s.pipelines) a l (context p ts)) backdrop ≡ paint_tree (paint_pipeline s) s l (context p ts) (under s a.clips 255) backdrop
-        by_test true e = rw e (trees_paints s own n k a l ts backdrop h is.1 above)
-        by_test false e = rw e refl
+      let inner = paint_pipeline s in
+      either_paints s (is_plain l p) (trees_tops (pipeline_tops s.pipelines) a l ts) (top_item a l (context p ts)) backdrop (paint_trees inner s l ts cover backdrop)
+      (paint_group s l p (paint_trees inner s l ts 255 clear) cover backdrop) (trees_paints s own n k a l ts backdrop h is.1 above) refl
   tree_paints s own n k a l (iframe o q) backdrop h is above =
       h q (first_corner (item_rect l o)) (around_iframe a l o) backdrop above is.1 ∙ ap (λ (c : ℕ). paint_pipeline s q (first_corner (item_rect l o)) c backdrop) (under_iframe s a l o)
   tree_paints s own n k a l (hit_area o i) backdrop h is above = refl
