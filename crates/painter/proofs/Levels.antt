@@ -1,11 +1,11 @@
 -- More levels of pipelines give nothing more, and a pipeline gives what its list gives.
-use Rattle.std.proofs.Common.{◌≡◌, ℕ, zero, suc, ◌+◌, ◌-◌, ◌≤◌, List, refl, sym, ap, ◌∙◌, arith}
+use Rattle.std.proofs.Common.{◌≡◌, ℕ, zero, suc, ◌+◌, ◌-◌, refl, sym, ap, ◌∙◌, arith}
 use Rattle.std.proofs.Math.Path.{fun_ext}
 use Rattle.wr_geom.specs.declared.point.Point.{Point}
 use Rattle.blend_rules.specs.declared.colour.Px.{Px}
 use Rattle.pipelines.specs.Table.{PipelineMap, AreFit}
 use Rattle.painter.specs.PlacedList.{placed_at}
-use Rattle.painter.specs.Painter.{ScenePixel, paint_list, paint_levels, paint_pipeline}
+use Rattle.painter.specs.Painter.{ScenePixel, paint_list, paint_levels}
 use Rattle.painter.specs.TopItems.{Around, TopLister, list_tops, tops_in, pipeline_tops}
 use Rattle.painter.specs.Laws.{MoreLevelsPaintTheSame, MoreLevelsHaveTheSameTops, PipelinePaintsItsList, PipelineHasItsListsTops}
 use Rattle.painter.proofs.Enough.{more_levels, tops_each}

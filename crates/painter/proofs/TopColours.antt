@@ -1,6 +1,5 @@
 -- What top items paint in order.
-use Rattle.std.proofs.Common.{◌≡◌, ℕ, zero, suc, ◌+◌, ◌<◌, ◌≤◌, Bool, true, false, if◌then◌else◌, List, [], ◌∷◌, ◌++◌, length, Option, Some, None, refl, sym, ap, subst, ◌∙◌, arith}
-use Rattle.std.specs.List.{fold}
+use Rattle.std.proofs.Common.{◌≡◌, ℕ, zero, suc, ◌+◌, ◌<◌, ◌≤◌, Bool, true, false, if◌then◌else◌, List, [], ◌∷◌, ◌++◌, length, Option, Some, None, refl, sym, ap, ◌∙◌, arith}
 use Rattle.std.specs.Option.{option_map}
 use Rattle.std.proofs.lemmas.List.Sums.{fold-append}
 use Rattle.wr_geom.specs.Bounds.{holds}
@@ -17,12 +16,11 @@ use Rattle.display_list.proofs.TreeFacts.{list_trees, fits_trees}
 use Rattle.spatial_tree.specs.Moves.{MovesModel}
 use Rattle.pipelines.specs.Table.{pipeline_at, pipeline_list, IsListOf, AreFit}
 use Rattle.primitives.specs.declared.kind.Kind.TheVariants as kind
-use Rattle.primitives.specs.Colours.{primitive_colour}
 use Rattle.primitives.proofs.Colours.{colour_inside}
 use Rattle.scene_limits.specs.Places.{zero_point}
-use Rattle.painter.specs.PlacedList.{PlacedList, placed_at, item_rect, chain_clips, first_corner, iframe_clips, is_plain}
+use Rattle.painter.specs.PlacedList.{PlacedList, item_rect, chain_clips, first_corner, iframe_clips, is_plain}
 use Rattle.painter.specs.Painter.{ScenePixel, ListPainter, primitive_of, under, paint_primitive, paint_group, paint_tree, paint_trees, paint_list, paint_pipeline}
-use Rattle.painter.specs.TopItems.{Around, TopItem, TopLister, nothing_around, around_iframe, top_item, tree_tops, trees_tops, list_tops, pipeline_tops, top_items, paint_top}
+use Rattle.painter.specs.TopItems.{Around, TopItem, TopLister, nothing_around, around_iframe, top_item, tree_tops, trees_tops, list_tops, pipeline_tops, paint_top}
 use Rattle.painter.specs.Slices.{paint_tops}
 use Rattle.painter.specs.Laws.{OpaqueSolidHides, TopsPaintTheScene}
 use Rattle.painter.proofs.Enough.{placed}

@@ -1,5 +1,5 @@
 -- What holds of painted items, pipelines, top items and slices, as laws on the definitions.
-use Rattle.std.specs.Prelude.{◌≡◌, ◌≢◌, ℕ, ◌+◌, ◌<◌, ◌≤◌, ◌^◌, true, List, [], ◌∷◌, ◌++◌, length, All, Option, Some, None, IsTrue, IsFalse}
+use Rattle.std.specs.Prelude.{◌≡◌, ◌≢◌, ℕ, ◌+◌, ◌<◌, ◌≤◌, ◌^◌, List, [], ◌∷◌, ◌++◌, length, All, Option, Some, None, IsTrue, IsFalse}
 use Rattle.std.specs.FinMap as map
 use Rattle.wr_geom.specs.Bounds.{holds}
 use Rattle.wr_geom.specs.declared.point.Point.{Point}
