@@ -1,5 +1,5 @@
 -- Contexts that give what their items give.
-use Rattle.std.proofs.Common.{◌≡◌, ℕ, ◌+◌, Bool, true, false, if◌then◌else◌, List, length, Option, None, refl, sym, ap, ◌∙◌, arith}
+use Rattle.std.proofs.Common.{◌≡◌, ℕ, Bool, true, false, if◌then◌else◌, Option, None, refl, ap, ◌∙◌, arith}
 use Rattle.blend_rules.specs.declared.colour.Px.{Px}
 use Rattle.blend_rules.specs.Colour.{IsPixel, clear, scaled, blended}
 use Rattle.blend_rules.proofs.Blends.{scaled_by_full, clear_backdrop_shows, clear_is_pixel}
@@ -8,7 +8,7 @@ use Rattle.display_list.specs.declared.token.Push.{Push}
 use Rattle.display_list.specs.Trees.{context}
 use Rattle.painter.specs.PlacedList.{PlacedList, node_point, chain_clips, opacity_of, is_plain}
 use Rattle.painter.specs.Painter.{ScenePixel, under, paint_group, paint_trees}
-use Rattle.painter.specs.TopItems.{TopItem, top_item, trees_tops}
+use Rattle.painter.specs.TopItems.{top_item, trees_tops}
 use Rattle.painter.specs.Laws.{PlainContextPaintsItems, PlainContextHasTheirTops, GroupOnClearIsItsItems}
 use Rattle.painter.proofs.Pixels.{items_pixel}
 

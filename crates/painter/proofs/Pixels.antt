@@ -1,5 +1,5 @@
 -- What is painted is a pixel.
-use Rattle.std.proofs.Common.{◌≡◌, ℕ, zero, suc, ◌+◌, ◌<◌, ◌≤◌, ◌^◌, ℤ, Bool, true, false, if◌then◌else◌, List, map, length, Option, Some, None, refl, arith}
+use Rattle.std.proofs.Common.{◌≡◌, ℕ, zero, suc, ◌+◌, ◌<◌, ◌^◌, ℤ, Bool, true, false, if◌then◌else◌, List, map, length, Option, Some, None, refl, arith}
 use Rattle.std.specs.FinMap as finite_map
 use Rattle.std.specs.Option.{option_map}
 use Rattle.wr_geom.specs.Bounds.{holds}
@@ -14,7 +14,6 @@ use Rattle.display_list.specs.declared.item.Spot.{Spot}
 use Rattle.display_list.specs.declared.item.GlyphAt.{GlyphAt}
 use Rattle.display_list.specs.declared.token.Push.{Push}
 use Rattle.display_list.specs.ListModel.{ListModel}
-use Rattle.display_list.specs.Facts.{IsToken}
 use Rattle.display_list.specs.Trees.{Tree, solid, image, border, text, context, iframe, hit_area, Trees, none, more, told, IsTree, AreTrees}
 use Rattle.display_list.proofs.TreeFacts.{list_trees}
 use Rattle.image_store.specs.StoreModel.{StoreModel, IsStore}
@@ -25,7 +24,7 @@ use Rattle.primitives.specs.PrimitiveModel.{PrimitiveModel}
 use Rattle.primitives.specs.Colours.{kind_colour, primitive_colour}
 use Rattle.primitives.proofs.Colours.{colour_is_pixel, border_pixel, text_pixel}
 use Rattle.painter.specs.PlacedList.{PlacedList, node_point, item_rect, chain_clips, first_corner, iframe_clips, or_own, bound_opacity, opacity_of, is_plain}
-use Rattle.painter.specs.Painter.{ScenePixel, ListPainter, image_kind, glyph_use, text_kind, primitive_of, under, paint_primitive, paint_group, paint_tree, paint_trees, paint_list, paint_levels, paint_pipeline}
+use Rattle.painter.specs.Painter.{ScenePixel, ListPainter, image_kind, glyph_use, text_kind, primitive_of, under, paint_primitive, paint_group, paint_tree, paint_trees, paint_list, paint_levels}
 use Rattle.painter.specs.Laws.{AreByteOpacities, IsScenePixel, GivesPixels, ItemGivesPixel, ItemsGivePixel, PipelinesGivePixels}
 use Rattle.painter.proofs.Enough.{placed}
 

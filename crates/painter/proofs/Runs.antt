@@ -1,12 +1,12 @@
 -- Runs and slices of top items.
-use Rattle.std.proofs.Common.{◌≡◌, ◌≢◌, ℕ, zero, suc, ◌+◌, ◌≤◌, Bool, true, false, true≢false, ◌==◌, if◌then◌else◌, List, [], ◌∷◌, ◌++◌, length, Option, Some, None, refl, sym, ap, subst, ◌∙◌, arith}
+use Rattle.std.proofs.Common.{◌≡◌, ◌≢◌, ℕ, zero, suc, ◌+◌, ◌≤◌, Bool, true, false, true≢false, ◌==◌, List, [], ◌∷◌, ◌++◌, length, Some, None, refl, sym, ap, subst, ◌∙◌, arith}
 use Rattle.std.specs.Prelude.{All}
 use Rattle.std.proofs.lemmas.Bool.{and_from, eq-eqb}
 use Rattle.std.proofs.lemmas.List.{append-nil}
 use Rattle.std.proofs.lemmas.List.Elements.{All-nil, All-cons, All-head, All-tail}
 use Rattle.painter.specs.TopItems.{Home, TopItem, home_of}
-use Rattle.painter.specs.Slices.{Slice, same_home, before_runs, runs, joined_tops, rest_in_one, slices_of}
-use Rattle.painter.specs.Laws.{IsRun, HaveOtherHomes, RunsHaveOneHome, RunsHaveOtherHomes, RunsHaveAllTops, SlicesHaveAllTops, SlicesAreFew}
+use Rattle.painter.specs.Slices.{Slice, same_home, before_runs, runs, joined_tops, rest_in_one}
+use Rattle.painter.specs.Laws.{IsRun, HaveOtherHomes, RunsHaveOneHome, RunsHaveOtherHomes, SlicesHaveAllTops, SlicesAreFew}
 use Rattle.painter.proofs.Slicing.{home_same, runs_joined}
 
 -- ---- runs

@@ -1,5 +1,5 @@
 -- Where items change nothing: outside of their rectangles, under a cover of 0, and where their clips leave nothing.
-use Rattle.std.proofs.Common.{◌≡◌, ℕ, zero, suc, ◌+◌, ◌<◌, ◌≤◌, ◌^◌, Bool, true, false, if◌then◌else◌, List, [], ◌∷◌, ◌++◌, length, Option, Some, None, refl, sym, ap, subst, ◌∙◌, arith}
+use Rattle.std.proofs.Common.{◌≡◌, ℕ, zero, suc, ◌+◌, ◌<◌, ◌^◌, Bool, true, false, if◌then◌else◌, List, [], ◌∷◌, length, Option, Some, None, refl, sym, ap, ◌∙◌, arith}
 use Rattle.std.specs.Option.{option_map}
 use Rattle.std.proofs.lemmas.Bool.{and_parts}
 use Rattle.wr_geom.specs.Bounds.{holds}
@@ -11,7 +11,7 @@ use Rattle.blend_rules.specs.Colour.{IsPixel, clear, product, scaled, blended}
 use Rattle.blend_rules.proofs.Blends.{scaled_by_none, scaled_clear, clear_source_leaves, clear_is_pixel}
 use Rattle.blend_rules.proofs.Products.{product-zero_right}
 use Rattle.clip_masks.specs.Clips.{rect_clip}
-use Rattle.clip_masks.specs.Coverage.{coverage, chain_coverage}
+use Rattle.clip_masks.specs.Coverage.{chain_coverage}
 use Rattle.clip_masks.proofs.Chains.{chain_byte, chain_zero, chain-append}
 use Rattle.clip_masks.proofs.Moves.{rect_clip_coverage}
 use Rattle.clip_masks.specs.declared.clip.Clip.{Clip}
@@ -23,16 +23,14 @@ use Rattle.display_list.specs.Trees.{Tree, solid, image, border, text, context, 
 use Rattle.display_list.proofs.TreeFacts.{list_trees}
 use Rattle.image_store.specs.StoreModel.{IsStore}
 use Rattle.spatial_tree.specs.Moves.{MovesModel}
-use Rattle.pipelines.specs.Table.{PipelineMap, pipeline_at, pipeline_list, IsListOf}
+use Rattle.pipelines.specs.Table.{pipeline_at, pipeline_list, IsListOf}
 use Rattle.primitives.specs.declared.kind.Kind.{Kind}
 use Rattle.primitives.specs.declared.kind.Kind.TheVariants as kind
-use Rattle.primitives.specs.PrimitiveModel.{PrimitiveModel}
-use Rattle.primitives.specs.Colours.{primitive_colour}
 use Rattle.primitives.proofs.Colours.{colour_outside}
-use Rattle.painter.specs.PlacedList.{PlacedList, placed_at, node_point, item_rect, chain_clips, first_corner, iframe_clips, opacity_of, is_none, is_normal, stands_around, is_plain}
+use Rattle.painter.specs.PlacedList.{PlacedList, node_point, item_rect, chain_clips, first_corner, iframe_clips, opacity_of, is_none, stands_around, is_plain}
 use Rattle.painter.specs.Painter.{ScenePixel, ListPainter, image_kind, text_kind, primitive_of, under, paint_primitive, paint_group, paint_tree, paint_trees, paint_list, paint_levels, paint_pipeline}
-use Rattle.painter.specs.TopItems.{Around, TopItem, around_iframe, tree_tops, list_tops, tops_in, pipeline_tops}
-use Rattle.painter.specs.Laws.{AreByteOpacities, IsScenePixel, IsItemOf, GivesPixels, primitive_spot, own_chain, PrimitiveStaysInside, ItemStaysInside, IframeStaysInside}
+use Rattle.painter.specs.TopItems.{around_iframe, list_tops, tops_in}
+use Rattle.painter.specs.Laws.{AreByteOpacities, IsScenePixel, GivesPixels, own_chain, PrimitiveStaysInside, ItemStaysInside, IframeStaysInside}
 use Rattle.painter.specs.Laws.{NothingUnderNoCover, NothingWhereClippedAway, EmptyIframePaintsNothing, EmptyIframeHasNoTops}
 use Rattle.painter.proofs.Enough.{placed}
 use Rattle.painter.proofs.Pixels.{solid_pixel, image_pixel, border_item_pixel, text_item_pixel, faded_pixel, trees_pixel, levels_pixel}
