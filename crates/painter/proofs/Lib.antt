@@ -7,3 +7,4 @@ pub mod Contexts
 pub mod Levels
 pub mod TopColours
 pub mod Runs
+pub mod Picture

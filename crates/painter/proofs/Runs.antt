@@ -59,7 +59,7 @@ rest_of q [] other = tt
 rest_of q (r ∷ rs) other = other.1
 
 -- a home is the same as itself
-home_self : (h : Home) → same_home h h ≡ true
+pub home_self : (h : Home) → same_home h h ≡ true
 home_self None = refl
 home_self (Some h) = and_from (h.0 == h.0) (h.1 == h.1) (eq-eqb h.0 h.0 refl) (eq-eqb h.1 h.1 refl)
 

@@ -1,10 +1,11 @@
 -- What holds of painted items, pipelines, top items and slices, as laws on the definitions.
-use Rattle.std.specs.Prelude.{◌≡◌, ◌≢◌, ℕ, ◌+◌, ◌<◌, ◌≤◌, ◌^◌, List, [], ◌∷◌, ◌++◌, length, All, Option, Some, None, IsTrue, IsFalse}
+use Rattle.std.specs.Prelude.{◌≡◌, ◌≢◌, ℕ, ◌+◌, ◌<◌, ◌≤◌, ◌^◌, Bool, true, false, not, List, [], ◌∷◌, ◌++◌, length, All, Option, Some, None, IsTrue, IsFalse}
 use Rattle.std.specs.FinMap as map
 use Rattle.wr_geom.specs.Bounds.{holds}
 use Rattle.wr_geom.specs.declared.point.Point.{Point}
 use Rattle.blend_rules.specs.declared.colour.Px.{Px}
-use Rattle.blend_rules.specs.Colour.{IsPixel, clear}
+use Rattle.blend_rules.specs.declared.mode.Mode.TheVariants.{Normal}
+use Rattle.blend_rules.specs.Colour.{IsPixel, clear, blended}
 use Rattle.display_list.specs.declared.item.Spot.{Spot}
 use Rattle.display_list.specs.declared.token.Push.{Push}
 use Rattle.display_list.specs.Trees.{Tree, solid, image, border, text, context, iframe, hit_area, Trees, IsTree, AreTrees}
@@ -15,8 +16,8 @@ use Rattle.primitives.specs.PrimitiveModel.{PrimitiveModel}
 use Rattle.scene_limits.specs.Places.{zero_point}
 use Rattle.painter.specs.PlacedList.{PlacedList, placed_at, item_rect, chain_clips, opacity_of, is_plain}
 use Rattle.painter.specs.Painter.{ScenePixel, ListPainter, under, paint_primitive, paint_tree, paint_trees, paint_list, paint_levels, paint_pipeline}
-use Rattle.painter.specs.TopItems.{Around, TopItem, TopLister, tree_tops, trees_tops, list_tops, tops_in, pipeline_tops, top_items, home_of}
-use Rattle.painter.specs.Slices.{Slice, runs, joined_tops, slices_of, paint_tops}
+use Rattle.painter.specs.TopItems.{Home, Around, TopItem, TopLister, tree_tops, trees_tops, list_tops, tops_in, pipeline_tops, top_items, home_of}
+use Rattle.painter.specs.Slices.{Slice, runs, joined_tops, slices_of, paint_tops, picture_over}
 
 -- ---- what is drawn
 
@@ -155,6 +156,25 @@ PipelineHasItsListsTops = (pipelines : PipelineMap) (p : ℕ) (origin : Point) (
 
 -- ---- top items
 
+-- whether an item is drawn by itself: a primitive or a group, and no plain context, Iframe or hit area
+abbrev pub is_drawn : PlacedList → Tree → Bool
+is_drawn l (solid spot colour) = true
+is_drawn l (image spot key u v) = true
+is_drawn l (border spot widths top right bottom left_ radii) = true
+is_drawn l (text spot font colour glyphs) = true
+is_drawn l (context push ts) = not (is_plain l push)
+is_drawn l (iframe spot pipeline) = false
+is_drawn l (hit_area spot tag) = false
+
+-- a primitive or a group of its list
+pub record IsTopItem (t : TopItem) : Type 0 where
+  pub drawn : IsTrue (is_drawn t.list t.item)
+  pub item : IsItemOf t.list t.item
+
+-- each top item is a primitive or a group of its list
+abbrev pub TopsAreDrawn : Type 0
+TopsAreDrawn = (s : ScenePixel) → IsScenePixel s → All IsTopItem (top_items s.pipelines)
+
 -- an opaque solid over a pixel, of which clips leave all, hides the top items before it
 abbrev pub OpaqueSolidHides : Type 0
 OpaqueSolidHides =
@@ -197,3 +217,15 @@ SlicesHaveAllTops = (ts : List TopItem) → joined_tops (slices_of ts) ≡ ts
 -- there are at most eight slices
 abbrev pub SlicesAreFew : Type 0
 SlicesAreFew = (ts : List TopItem) → length (slices_of ts) ≤ 8
+
+-- ---- the picture
+
+-- over a pixel, the picture is a pixel
+abbrev pub PictureIsPixel : Type 0
+PictureIsPixel = (s : ScenePixel) (behind : Px) → IsScenePixel s → IsPixel behind → IsPixel (picture_over s behind)
+
+-- where all top items have one home, the picture is what the root pipeline gives on clear, laid over the colour behind
+abbrev pub OneHomeIsOneGroup : Type 0
+OneHomeIsOneGroup =
+    (s : ScenePixel) (behind : Px) (home : Home) → AreFit s.pipelines → IsPixel behind → All (λ t. home_of t ≡ home) (top_items s.pipelines)
+    → picture_over s behind ≡ blended Normal (paint_pipeline s 0 zero_point 255 clear) behind

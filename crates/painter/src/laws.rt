@@ -7,8 +7,9 @@ ghost use Rattle.painter.specs.Laws.{EmptyIframePaintsNothing, EmptyIframeHasNoT
 ghost use Rattle.painter.specs.Laws.{PlainContextPaintsItems, PlainContextHasTheirTops, GroupOnClearIsItsItems};
 ghost use Rattle.painter.specs.Laws.{MoreLevelsPaintTheSame, MoreLevelsHaveTheSameTops};
 ghost use Rattle.painter.specs.Laws.{PipelinePaintsItsList, PipelineHasItsListsTops};
-ghost use Rattle.painter.specs.Laws.{OpaqueSolidHides, TopsPaintTheScene};
+ghost use Rattle.painter.specs.Laws.{OpaqueSolidHides, TopsAreDrawn, TopsPaintTheScene};
 ghost use Rattle.painter.specs.Laws.{RunsHaveOneHome, RunsHaveOtherHomes, RunsHaveAllTops, SlicesHaveAllTops, SlicesAreFew};
+ghost use Rattle.painter.specs.Laws.{OneHomeIsOneGroup, PictureIsPixel};
 
 /// What is painted is a pixel. It does nothing.
 pub fn pixel_laws()
@@ -44,8 +45,9 @@ pub fn level_laws()
     ensures list_tops { PipelineHasItsListsTops }
 {}
 
-/// What top items paint in order. It does nothing.
+/// What top items are, and what they paint in order. It does nothing.
 pub fn top_laws()
+    ensures drawn { TopsAreDrawn }
     ensures hidden { OpaqueSolidHides }
     ensures scene { TopsPaintTheScene }
 {}
@@ -58,4 +60,10 @@ pub fn slice_laws()
     ensures run_tops { RunsHaveAllTops }
     ensures slice_tops { SlicesHaveAllTops }
     ensures few { SlicesAreFew }
+{}
+
+/// What the picture is over a colour behind all. It does nothing.
+pub fn picture_laws()
+    ensures pixel { PictureIsPixel }
+    ensures one_home { OneHomeIsOneGroup }
 {}
