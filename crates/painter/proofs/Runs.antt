@@ -6,7 +6,7 @@ use Rattle.std.proofs.lemmas.List.{append-nil}
 use Rattle.std.proofs.lemmas.List.Elements.{All-nil, All-cons, All-head, All-tail}
 use Rattle.painter.specs.TopItems.{Home, TopItem, home_of}
 use Rattle.painter.specs.Slices.{Slice, same_home, before_runs, runs, joined_tops, rest_in_one}
-use Rattle.painter.specs.Laws.{IsRun, HaveOtherHomes, RunsHaveOneHome, RunsHaveOtherHomes, SlicesHaveAllTops, SlicesAreFew}
+use Rattle.painter.specs.Laws.{IsRun, NeighboursDiffer, RunsHaveOneHome, NeighbouringRunsDiffer, SlicesHaveAllTops, SlicesAreFew}
 use Rattle.painter.proofs.Slicing.{home_same, runs_joined}
 
 -- ---- runs
@@ -46,15 +46,15 @@ StartsOther h [] = Unit {0}
 StartsOther h (r ∷ rs) = h ≢ r.home
 
 -- the same as of two slices side by side
-side_by_side : (q : Slice) (rs : List Slice) → StartsOther q.home rs → HaveOtherHomes rs → HaveOtherHomes (q ∷ rs)
+side_by_side : (q : Slice) (rs : List Slice) → StartsOther q.home rs → NeighboursDiffer rs → NeighboursDiffer (q ∷ rs)
 side_by_side q [] other rest = tt
 side_by_side q (r ∷ rs) other rest = (other, rest)
 
-first_of : (q : Slice) (rs : List Slice) → HaveOtherHomes (q ∷ rs) → StartsOther q.home rs
+first_of : (q : Slice) (rs : List Slice) → NeighboursDiffer (q ∷ rs) → StartsOther q.home rs
 first_of q [] other = tt
 first_of q (r ∷ rs) other = other.0
 
-rest_of : (q : Slice) (rs : List Slice) → HaveOtherHomes (q ∷ rs) → HaveOtherHomes rs
+rest_of : (q : Slice) (rs : List Slice) → NeighboursDiffer (q ∷ rs) → NeighboursDiffer rs
 rest_of q [] other = tt
 rest_of q (r ∷ rs) other = other.1
 
@@ -66,15 +66,15 @@ home_self (Some h) = and_from (h.0 == h.0) (h.1 == h.1) (eq-eqb h.0 h.0 refl) (e
 home_other : (g h : Home) → same_home g h ≡ false → g ≢ h
 home_other g h e same = true≢false (sym (home_self g) ∙ ap (same_home g) same ∙ e)
 
-before_differ : (t : TopItem) (rs : List Slice) → HaveOtherHomes rs → HaveOtherHomes (before_runs t rs)
+before_differ : (t : TopItem) (rs : List Slice) → NeighboursDiffer rs → NeighboursDiffer (before_runs t rs)
 before_differ t [] other = tt
 before_differ t (r ∷ rs) other = by_test (same_home (home_of t) r.home) refl
   where
-    by_test : (b : Bool) → same_home (home_of t) r.home ≡ b → HaveOtherHomes (before_runs t (r ∷ rs))
+    by_test : (b : Bool) → same_home (home_of t) r.home ≡ b → NeighboursDiffer (before_runs t (r ∷ rs))
     by_test true e = rw e (side_by_side (run_with t r.tops) rs (subst (λ h. StartsOther h rs) (sym (home_same (home_of t) r.home e)) (first_of r rs other)) (rest_of r rs other))
     by_test false e = rw e (side_by_side (run_with t []) (r ∷ rs) (home_other (home_of t) r.home e) other)
 
-pub runs_differ : RunsHaveOtherHomes
+pub runs_differ : NeighbouringRunsDiffer
 runs_differ [] = tt
 runs_differ (t ∷ ts) = before_differ t (runs ts) (runs_differ ts)
 

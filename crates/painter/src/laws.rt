@@ -8,7 +8,7 @@ ghost use Rattle.painter.specs.Laws.{PlainContextPaintsItems, PlainContextHasThe
 ghost use Rattle.painter.specs.Laws.{MoreLevelsPaintTheSame, MoreLevelsHaveTheSameTops};
 ghost use Rattle.painter.specs.Laws.{PipelinePaintsItsList, PipelineHasItsListsTops};
 ghost use Rattle.painter.specs.Laws.{OpaqueSolidHides, TopsAreDrawn, TopsPaintTheScene};
-ghost use Rattle.painter.specs.Laws.{RunsHaveOneHome, RunsHaveOtherHomes, RunsHaveAllTops, SlicesHaveAllTops, SlicesAreFew};
+ghost use Rattle.painter.specs.Laws.{RunsHaveOneHome, NeighbouringRunsDiffer, RunsHaveAllTops, SlicesHaveAllTops, SlicesAreFew};
 ghost use Rattle.painter.specs.Laws.{OneHomeIsOneGroup, PictureIsPixel};
 
 /// What is painted is a pixel. It does nothing.
@@ -56,7 +56,7 @@ pub fn top_laws()
 /// eight. It does nothing.
 pub fn slice_laws()
     ensures one_home { RunsHaveOneHome }
-    ensures other_homes { RunsHaveOtherHomes }
+    ensures neighbours { NeighbouringRunsDiffer }
     ensures run_tops { RunsHaveAllTops }
     ensures slice_tops { SlicesHaveAllTops }
     ensures few { SlicesAreFew }

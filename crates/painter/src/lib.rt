@@ -11,6 +11,7 @@ mod progress;
 mod shown;
 mod tops;
 
-pub use laws::{context_laws, level_laws, picture_laws, pixel_laws};
-pub use laws::{slice_laws, top_laws, unchanged_laws};
+pub use laws::{
+    context_laws, level_laws, picture_laws, pixel_laws, slice_laws, top_laws, unchanged_laws,
+};
 pub use tops::picture_at;
