@@ -6,8 +6,8 @@ use Rattle.std.proofs.lemmas.List.Elements.{All-nil, All-cons, All-head, All-tai
 use Rattle.wr_geom.specs.declared.point.Point.{Point}
 use Rattle.blend_rules.specs.declared.colour.Px.{Px}
 use Rattle.blend_rules.specs.declared.mode.Mode.TheVariants.{Normal}
-use Rattle.blend_rules.specs.Colour.{IsPixel, clear, blended}
-use Rattle.blend_rules.proofs.Blends.{blend_is_pixel, clear_is_pixel, clear_source_leaves}
+use Rattle.blend_rules.specs.Colour.{IsPremultiplied, IsPixel, clear, blended}
+use Rattle.blend_rules.proofs.Blends.{blend_is_premultiplied, blend_is_pixel, clear_is_pixel, clear_source_leaves}
 use Rattle.clip_masks.proofs.Chains.{chain_byte}
 use Rattle.display_list.specs.ListModel.{ListModel}
 use Rattle.display_list.specs.Trees.{Tree, solid, image, border, text, context, iframe, hit_area, Trees, none, more, told, IsTree, AreTrees}
@@ -19,7 +19,7 @@ use Rattle.painter.specs.PlacedList.{PlacedList, item_rect, first_corner, is_pla
 use Rattle.painter.specs.Painter.{ScenePixel, under, paint_pipeline}
 use Rattle.painter.specs.TopItems.{Home, Around, TopItem, TopLister, nothing_around, around_iframe, top_item, tree_tops, trees_tops, list_tops, tops_in, top_items, home_of, paint_top}
 use Rattle.painter.specs.Slices.{Slice, same_home, before_runs, runs, joined_tops, rest_in_one, slices_of, paint_tops, slice_colour, paint_slices, picture_over}
-use Rattle.painter.specs.Laws.{AreByteOpacities, IsScenePixel, IsTopItem, is_drawn, TopsAreDrawn, PictureIsPixel, OneHomeIsOneGroup}
+use Rattle.painter.specs.Laws.{AreByteOpacities, IsScenePixel, IsTopItem, is_drawn, TopsAreDrawn, PictureIsPixel, PictureIsPremultiplied, OneHomeIsOneGroup}
 use Rattle.painter.proofs.Enough.{placed}
 use Rattle.painter.proofs.Pixels.{item_pixel, pipelines_pixel}
 use Rattle.painter.proofs.Runs.{home_self, slices_joined}
@@ -98,6 +98,14 @@ unfolding picture_over
 picture_pixel s behind is b =
     let tops = top_items s.pipelines in
     slices_pixel s (slices_of tops) behind is (subst (All IsTopItem) (sym (slices_joined tops)) (tops_drawn s is)) b
+
+slices_premultiplied : (s : ScenePixel) (rs : List Slice) (backdrop : Px) → IsPremultiplied backdrop → IsPremultiplied (paint_slices s rs backdrop)
+slices_premultiplied s [] backdrop b = b
+slices_premultiplied s (r ∷ rs) backdrop b = slices_premultiplied s rs (blended Normal (slice_colour s r) backdrop) (blend_is_premultiplied Normal (slice_colour s r) backdrop)
+
+pub picture_premultiplied : PictureIsPremultiplied
+unfolding picture_over
+picture_premultiplied s behind b = slices_premultiplied s (slices_of (top_items s.pipelines)) behind b
 
 -- ---- one home
 

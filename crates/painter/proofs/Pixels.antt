@@ -7,8 +7,8 @@ use Rattle.wr_geom.specs.declared.point.Point.{Point}
 use Rattle.blend_rules.specs.declared.colour.Px.{Px}
 use Rattle.blend_rules.specs.declared.mode.Mode.{Mode}
 use Rattle.blend_rules.specs.declared.mode.Mode.TheVariants.{Normal}
-use Rattle.blend_rules.specs.Colour.{IsPixel, clear, scaled, blended}
-use Rattle.blend_rules.proofs.Blends.{scaled_is_pixel, blend_is_pixel, clear_is_pixel}
+use Rattle.blend_rules.specs.Colour.{IsPremultiplied, IsPixel, clear, scaled, blended}
+use Rattle.blend_rules.proofs.Blends.{scaled_is_pixel, blend_is_premultiplied, blend_is_pixel, clear_is_pixel}
 use Rattle.clip_masks.proofs.Chains.{chain_byte}
 use Rattle.display_list.specs.declared.item.Spot.{Spot}
 use Rattle.display_list.specs.declared.item.GlyphAt.{GlyphAt}
@@ -23,9 +23,9 @@ use Rattle.primitives.specs.declared.kind.Kind.TheVariants as kind
 use Rattle.primitives.specs.PrimitiveModel.{PrimitiveModel}
 use Rattle.primitives.specs.Colours.{kind_colour, primitive_colour}
 use Rattle.primitives.proofs.Colours.{colour_is_pixel, border_pixel, text_pixel}
-use Rattle.painter.specs.PlacedList.{PlacedList, node_point, item_rect, chain_clips, first_corner, iframe_clips, or_own, bound_opacity, opacity_of, is_plain}
+use Rattle.painter.specs.PlacedList.{PlacedList, placed_at, node_point, item_rect, chain_clips, first_corner, iframe_clips, or_own, bound_opacity, opacity_of, is_plain}
 use Rattle.painter.specs.Painter.{ScenePixel, ListPainter, image_kind, glyph_use, text_kind, primitive_of, under, paint_primitive, paint_group, paint_tree, paint_trees, paint_list, paint_levels}
-use Rattle.painter.specs.Laws.{AreByteOpacities, IsScenePixel, GivesPixels, ItemGivesPixel, ItemsGivePixel, PipelinesGivePixels}
+use Rattle.painter.specs.Laws.{AreByteOpacities, IsScenePixel, GivesPixels, ItemGivesPixel, ItemsGivePixel, PipelinesGivePixels, PipelinesGivePremultiplied}
 use Rattle.painter.proofs.Enough.{placed}
 
 -- ---- what is laid
@@ -133,3 +133,43 @@ levels_pixel (suc n) s is p origin cover backdrop lt b =
 
 pub pipelines_pixel : PipelinesGivePixels
 pipelines_pixel s is p origin cover backdrop lt b = levels_pixel 64 s is p origin cover backdrop lt b
+
+-- ---- premultiplied colours, whatever is stored
+
+-- over a premultiplied colour, a painter of lists gives a premultiplied one
+abbrev GivesPremultiplied : ListPainter → Type 0
+GivesPremultiplied inner = (p : ℕ) (origin : Point) (cover : ℕ) (backdrop : Px) → IsPremultiplied backdrop → IsPremultiplied (inner p origin cover backdrop)
+
+either_premultiplied : (b : Bool) (p q : Px) → IsPremultiplied p → IsPremultiplied q → IsPremultiplied (if b then p else q)
+either_premultiplied true p q is also = is
+either_premultiplied false p q is also = also
+
+mutual
+  tree_premultiplied : (inner : ListPainter) (s : ScenePixel) (l : PlacedList) (t : Tree) (cover : ℕ) (backdrop : Px) → GivesPremultiplied inner → IsPremultiplied backdrop → IsPremultiplied (paint_tree inner s l t cover backdrop)
+  tree_premultiplied inner s l (solid o px) cover backdrop gives b = blend_is_premultiplied Normal _ backdrop
+  tree_premultiplied inner s l (image o i u v) cover backdrop gives b = blend_is_premultiplied Normal _ backdrop
+  tree_premultiplied inner s l (border o w top r bo le ra) cover backdrop gives b = blend_is_premultiplied Normal _ backdrop
+  tree_premultiplied inner s l (text o i px gs) cover backdrop gives b = blend_is_premultiplied Normal _ backdrop
+  tree_premultiplied inner s l (context p ts) cover backdrop gives b =
+      either_premultiplied (is_plain l p) (paint_trees inner s l ts cover backdrop) (paint_group s l p (paint_trees inner s l ts 255 clear) cover backdrop)
+      (trees_premultiplied inner s l ts cover backdrop gives b)
+      (blend_is_premultiplied p.mode _ backdrop)
+  tree_premultiplied inner s l (iframe o q) cover backdrop gives b = gives q (first_corner (item_rect l o)) (under s (iframe_clips l o) cover) backdrop b
+  tree_premultiplied inner s l (hit_area o i) cover backdrop gives b = b
+
+  trees_premultiplied : (inner : ListPainter) (s : ScenePixel) (l : PlacedList) (ts : Trees) (cover : ℕ) (backdrop : Px) → GivesPremultiplied inner → IsPremultiplied backdrop → IsPremultiplied (paint_trees inner s l ts cover backdrop)
+  trees_premultiplied inner s l none cover backdrop gives b = b
+  trees_premultiplied inner s l (more t ts) cover backdrop gives b =
+      trees_premultiplied inner s l ts cover (paint_tree inner s l t cover backdrop) gives (tree_premultiplied inner s l t cover backdrop gives b)
+
+list_premultiplied : (inner : ListPainter) (s : ScenePixel) (o : Option PlacedList) (cover : ℕ) (backdrop : Px) → GivesPremultiplied inner → IsPremultiplied backdrop → IsPremultiplied (paint_list inner s o cover backdrop)
+list_premultiplied inner s None cover backdrop gives b = b
+list_premultiplied inner s (Some l) cover backdrop gives b = trees_premultiplied inner s l (told l.list.items) cover backdrop gives b
+
+levels_premultiplied : (n : ℕ) (s : ScenePixel) → GivesPremultiplied (paint_levels n s)
+unfolding paint_levels
+levels_premultiplied zero s p origin cover backdrop b = b
+levels_premultiplied (suc n) s p origin cover backdrop b = list_premultiplied (paint_levels n s) s (placed_at s.pipelines p origin) cover backdrop (levels_premultiplied n s) b
+
+pub pipelines_premultiplied : PipelinesGivePremultiplied
+pipelines_premultiplied s p origin cover backdrop b = levels_premultiplied 64 s p origin cover backdrop b

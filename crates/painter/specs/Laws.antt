@@ -5,7 +5,7 @@ use Rattle.wr_geom.specs.Bounds.{holds}
 use Rattle.wr_geom.specs.declared.point.Point.{Point}
 use Rattle.blend_rules.specs.declared.colour.Px.{Px}
 use Rattle.blend_rules.specs.declared.mode.Mode.TheVariants.{Normal}
-use Rattle.blend_rules.specs.Colour.{IsPixel, clear, blended}
+use Rattle.blend_rules.specs.Colour.{IsPremultiplied, IsPixel, clear, blended}
 use Rattle.display_list.specs.declared.item.Spot.{Spot}
 use Rattle.display_list.specs.declared.token.Push.{Push}
 use Rattle.display_list.specs.Trees.{Tree, solid, image, border, text, context, iframe, hit_area, Trees, IsTree, AreTrees}
@@ -85,6 +85,13 @@ ItemsGivePixel =
 -- and so do the pipelines of a scene
 abbrev pub PipelinesGivePixels : Type 0
 PipelinesGivePixels = (s : ScenePixel) → IsScenePixel s → GivesPixels (paint_pipeline s)
+
+-- over a premultiplied colour, pipelines give a premultiplied one, whatever is stored
+abbrev pub PipelinesGivePremultiplied : Type 0
+PipelinesGivePremultiplied =
+    (s : ScenePixel) (p : ℕ) (origin : Point) (cover : ℕ) (backdrop : Px)
+    → IsPremultiplied backdrop
+    → IsPremultiplied (paint_pipeline s p origin cover backdrop)
 
 -- ---- what changes nothing
 
@@ -268,6 +275,10 @@ PictureIsPixel =
     (s : ScenePixel) (behind : Px)
     → IsScenePixel s → IsPixel behind
     → IsPixel (picture_over s behind)
+
+-- over a premultiplied colour, the picture is premultiplied, whatever is stored
+abbrev pub PictureIsPremultiplied : Type 0
+PictureIsPremultiplied = (s : ScenePixel) (behind : Px) → IsPremultiplied behind → IsPremultiplied (picture_over s behind)
 
 -- where all top items have one home, the picture is what the root pipeline gives on clear, laid over the colour behind
 abbrev pub OneHomeIsOneGroup : Type 0

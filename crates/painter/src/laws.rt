@@ -1,6 +1,6 @@
 //! What holds of painted items, pipelines, top items and slices. Each function is empty: its contract is the law.
 
-ghost use Rattle.painter.specs.Laws.{ItemGivesPixel, ItemsGivePixel, PipelinesGivePixels};
+ghost use Rattle.painter.specs.Laws.{ItemGivesPixel, ItemsGivePixel, PipelinesGivePixels, PipelinesGivePremultiplied};
 ghost use Rattle.painter.specs.Laws.{PrimitiveStaysInside, ItemStaysInside, IframeStaysInside};
 ghost use Rattle.painter.specs.Laws.{NothingUnderNoCover, NothingWhereClippedAway};
 ghost use Rattle.painter.specs.Laws.{EmptyIframePaintsNothing, EmptyIframeHasNoTops};
@@ -9,13 +9,14 @@ ghost use Rattle.painter.specs.Laws.{MoreLevelsPaintTheSame, MoreLevelsHaveTheSa
 ghost use Rattle.painter.specs.Laws.{PipelinePaintsItsList, PipelineHasItsListsTops};
 ghost use Rattle.painter.specs.Laws.{OpaqueSolidHides, TopsAreDrawn, TopsPaintTheScene};
 ghost use Rattle.painter.specs.Laws.{RunsHaveOneHome, NeighbouringRunsDiffer, RunsHaveAllTops, SlicesHaveAllTops, SlicesAreFew};
-ghost use Rattle.painter.specs.Laws.{OneHomeIsOneGroup, PictureIsPixel};
+ghost use Rattle.painter.specs.Laws.{OneHomeIsOneGroup, PictureIsPixel, PictureIsPremultiplied};
 
-/// What is painted is a pixel. It does nothing.
+/// What is painted over a pixel is a pixel, and premultiplied over any premultiplied colour. It does nothing.
 pub fn pixel_laws()
     ensures item { ItemGivesPixel }
     ensures items { ItemsGivePixel }
     ensures pipelines { PipelinesGivePixels }
+    ensures premultiplied { PipelinesGivePremultiplied }
 {}
 
 /// An item changes nothing outside of its rectangle, nor where its clips or the cover around it leave
@@ -65,5 +66,6 @@ pub fn slice_laws()
 /// What the picture is over a colour behind all. It does nothing.
 pub fn picture_laws()
     ensures pixel { PictureIsPixel }
+    ensures premultiplied { PictureIsPremultiplied }
     ensures one_home { OneHomeIsOneGroup }
 {}
