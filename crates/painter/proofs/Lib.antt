@@ -2,3 +2,10 @@ pub mod Enough
 pub mod Reaching
 pub mod Slicing
 pub mod Painted
+pub mod Pixels
+pub mod Unchanged
+pub mod Contexts
+pub mod Levels
+pub mod TopColours
+pub mod Runs
+pub mod Picture

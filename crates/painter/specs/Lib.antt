@@ -4,3 +4,4 @@ pub mod TopItems
 pub mod Slices
 pub mod Progress
 pub mod Facts
+pub mod Laws

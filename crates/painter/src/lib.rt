@@ -4,10 +4,14 @@
 #![tactic(auto)]
 
 mod items;
+mod laws;
 mod pixel;
 mod placed_list;
 mod progress;
 mod shown;
 mod tops;
 
+pub use laws::{
+    context_laws, level_laws, picture_laws, pixel_laws, slice_laws, top_laws, unchanged_laws,
+};
 pub use tops::picture_at;

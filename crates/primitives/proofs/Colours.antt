@@ -111,7 +111,7 @@ glyph_use_pixel store h pipeline font colour x y g so_far c s =
     let stored = glyph_at store pipeline font g.glyph in
     mask_over_pixel (resource_of_use g.generation stored) (λ mask e. h.masks pipeline font g.glyph mask (used_stored g.generation stored mask e)) (record { x = g.x; y = g.y }) colour so_far x y c s
 
-text_pixel : (store : StoreModel) → IsStore store → (pipeline font : ℕ) (colour : Px) (x y : ℤ) → IsPixel colour → (glyphs : List GlyphUse) (so_far : Px) → IsPixel so_far
+pub text_pixel : (store : StoreModel) → IsStore store → (pipeline font : ℕ) (colour : Px) (x y : ℤ) → IsPixel colour → (glyphs : List GlyphUse) (so_far : Px) → IsPixel so_far
     → IsPixel (fold (glyph_use_over store pipeline font colour x y) so_far glyphs)
 text_pixel store h pipeline font colour x y c [] so_far s = s
 text_pixel store h pipeline font colour x y c (g ∷ gs) so_far s =
