@@ -1,7 +1,7 @@
 -- What an item shows at a pixel.
-use Rattle.std.proofs.Common.{◌≡◌, ℕ, ◌<◌, ◌≤◌, ◌^◌, ℤ, Bool, true, false, List, [], ◌∷◌, ◌++◌, if◌then◌else◌, Option, Some, None, refl, sym, ap, ap₂, ◌∙◌, arith}
+use Rattle.std.proofs.Common.{◌≡◌, ℕ, ℤ, Bool, true, false, List, [], ◌∷◌, ◌++◌, if◌then◌else◌, Option, Some, None, refl, sym, ap, ap₂, ◌∙◌}
 use Rattle.std.specs.Option.{option_map}
-use Rattle.wr_geom.specs.Bounds.{Bounds, holds}
+use Rattle.wr_geom.specs.Bounds.{holds}
 use Rattle.blend_rules.specs.declared.colour.Px.{Px}
 use Rattle.blend_rules.specs.declared.mode.Mode.TheVariants.{Normal}
 use Rattle.blend_rules.specs.Colour.{IsPixel, product, clear, scaled, blended}
@@ -11,7 +11,6 @@ use Rattle.clip_masks.specs.Coverage.{coverage, chain_coverage}
 use Rattle.clip_masks.specs.declared.clip.Clip.{Clip}
 use Rattle.clip_masks.proofs.Chains.{chain-append}
 use Rattle.display_list.specs.declared.item.Spot.{Spot}
-use Rattle.image_store.specs.StoreModel.{StoreModel}
 use Rattle.primitives.specs.declared.kind.Kind.{Kind}
 use Rattle.primitives.specs.PrimitiveModel.{PrimitiveModel}
 use Rattle.primitives.specs.Colours.{resource_of_use, kind_colour, primitive_colour}

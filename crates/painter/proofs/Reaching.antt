@@ -10,7 +10,7 @@ use Rattle.display_list.specs.ListModel.{ListModel}
 use Rattle.display_list.specs.Levels.{totals_of}
 use Rattle.display_list.specs.declared.item.Item.{Item}
 use Rattle.display_list.specs.declared.item.Spot.{Spot}
-use Rattle.display_list.specs.Trees.{Tree, solid, image, border, text, context, iframe, hit_area, Trees, none, more, told, tree_of, trees_of, tree_nesting, nesting_of}
+use Rattle.display_list.specs.Trees.{Tree, solid, image, border, text, context, iframe, hit_area, Trees, none, more, told, tree_of, trees_of, nesting_of}
 use Rattle.display_list.proofs.TreeFacts.{list_trees, fits_trees, trees_are_low}
 use Rattle.list_summary.specs.declared.iframe.Iframe.{Iframe}
 use Rattle.list_summary.specs.Iframes.{tree_iframes, trees_iframes, summary_of}

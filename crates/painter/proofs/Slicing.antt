@@ -1,8 +1,7 @@
 -- One pass over the top items gives the picture.
-use Rattle.std.proofs.Common.{◌≡◌, ℕ, zero, suc, ◌+◌, ◌-◌, ◌<◌, ◌≤◌, nat_lt, Bool, true, false, true≢false, ◌||◌, ◌&&◌, not, ◌==◌, List, [], ◌∷◌, ◌++◌, if◌then◌else◌, Option, Some, None, refl, sym, ap, ap₂, subst, ◌∙◌, arith, append_assoc}
+use Rattle.std.proofs.Common.{◌≡◌, ℕ, zero, suc, ◌+◌, ◌<◌, ◌≤◌, nat_lt, Bool, true, false, true≢false, ◌||◌, ◌&&◌, not, ◌==◌, List, [], ◌∷◌, ◌++◌, if◌then◌else◌, Some, None, refl, sym, ap, ap₂, ◌∙◌, arith}
 use Rattle.std.specs.List.{fold}
 use Rattle.std.proofs.lemmas.List.{append-nil}
-use Rattle.std.proofs.lemmas.List.Sums.{fold-append}
 use Rattle.std.proofs.lemmas.Bool.{and_parts, eqb-true, lt-ltb, ne_eqb}
 use Rattle.blend_rules.specs.declared.colour.Px.{Px}
 use Rattle.blend_rules.specs.declared.mode.Mode.TheVariants.{Normal}
@@ -10,9 +9,9 @@ use Rattle.blend_rules.specs.Colour.{clear, blended, IsPixel}
 use Rattle.blend_rules.proofs.Blends.{clear_source_leaves}
 use Rattle.painter.specs.Painter.{ScenePixel}
 use Rattle.painter.specs.TopItems.{Home, TopItem, top_items, home_of, paint_top}
-use Rattle.painter.specs.Slices.{Slice, same_home, before_runs, runs, joined_tops, rest_in_one, slices_of, paint_tops, slice_colour, paint_slices, picture_over}
+use Rattle.painter.specs.Slices.{Slice, same_home, before_runs, runs, joined_tops, rest_in_one, slices_of, paint_tops, paint_slices, picture_over}
 use Rattle.painter.specs.declared.progress.Progress.{Progress}
-use Rattle.painter.specs.Progress.{begin, begins, laid, entered, after_top}
+use Rattle.painter.specs.Progress.{begin, begins, laid, after_top}
 
 -- ---- homes
 

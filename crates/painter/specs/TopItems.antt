@@ -1,5 +1,5 @@
 -- The top items of a scene: the primitives and groups that stand in no group, through plain contexts and Iframes.
-use Rattle.std.specs.Prelude.{ℕ, zero, suc, pos, List, [], ◌∷◌, ◌++◌, map, Option, Some, None, if◌then◌else◌}
+use Rattle.std.specs.Prelude.{ℕ, zero, suc, List, [], ◌∷◌, ◌++◌, map, Option, Some, None, if◌then◌else◌}
 use Rattle.std.specs.Option.{option_map, option_or}
 use Rattle.wr_geom.specs.declared.point.Point.{Point}
 use Rattle.blend_rules.specs.declared.colour.Px.{Px}
@@ -9,7 +9,7 @@ use Rattle.display_list.specs.Trees.{Tree, solid, image, border, text, context, 
 use Rattle.pipelines.specs.Table.{PipelineMap}
 use Rattle.scene_limits.specs.Places.{zero_point}
 use Rattle.spatial_tree.specs.Homes.{root_scroll_of, homes_of}
-use Rattle.painter.specs.PlacedList.{PlacedList, placed_at, item_rect, chain_clips, first_corner, iframe_clips, is_plain}
+use Rattle.painter.specs.PlacedList.{PlacedList, placed_at, item_rect, first_corner, iframe_clips, is_plain}
 use Rattle.painter.specs.Painter.{ScenePixel, under, paint_tree, paint_pipeline}
 
 -- the scroll frame that moves something with all around it, by its pipeline and scroll number, or none

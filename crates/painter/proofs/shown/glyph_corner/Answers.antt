@@ -1,6 +1,6 @@
 use mir.Val.{SFits}
 use Rattle.std.proofs.lemmas.Int.{ints, to_z-of_z}
-use Rattle.std.proofs.Common.{◌≡◌, ◌∙◌, ℤ, ◌+ℤ◌, ap, ap₂, w32, to_z, of_z, arith, rules}
+use Rattle.std.proofs.Common.{◌≡◌, ◌∙◌, ℤ, ◌+ℤ◌, ap, ap₂, w32, to_z, of_z, arith}
 use Rattle.wr_geom.specs.declared.point.Point.{Point}
 use Rattle.painter.proofs.shown.glyph_corner.Goals as goal
 

@@ -1,6 +1,6 @@
 use mir.Val.{SFits}
 use Rattle.std.proofs.lemmas.Int.{to_z-of_z}
-use Rattle.std.proofs.Common.{rules, w32, ◌≡◌, ◌∙◌, ℤ, pos, List, refl, sym, ap, ap₂}
+use Rattle.std.proofs.Common.{rules, w32, ◌∙◌, ℤ, pos, refl, ap, ap₂}
 use Rattle.std.specs.List.{fold}
 use Rattle.clip_masks.proofs.Chains.{chain_none}
 use Rattle.scene_limits.specs.Places.{zero_point}

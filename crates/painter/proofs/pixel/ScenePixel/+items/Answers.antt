@@ -1,7 +1,7 @@
-use Rattle.std.proofs.Common.{◌≡◌, ◌+◌, ◌-◌, ◌*◌, ◌≤◌, ◌∙◌, Some, Option, sym, ap, arith}
+use Rattle.std.proofs.Common.{◌≡◌, ◌+◌, ◌-◌, ◌*◌, ◌≤◌, ◌∙◌, Option, sym, ap, arith}
 use Rattle.display_list.specs.Trees.{Trees, told, tree_of, trees_of, tree_nesting, nesting_of}
 use Rattle.list_summary.proofs.Counted.{item_nesting}
-use Rattle.painter.specs.PlacedList.{PlacedList, placed_at}
+use Rattle.painter.specs.PlacedList.{PlacedList}
 use Rattle.painter.specs.Painter.{paint_list, paint_trees, paint_pipeline}
 use Rattle.painter.proofs.Enough.{paint_each}
 use Rattle.painter.proofs.Reaching.{item_can, opened}

@@ -1,4 +1,4 @@
-use Rattle.std.proofs.Common.{◌≡◌, ◌+◌, ◌-◌, ◌*◌, ◌≤◌, ◌∙◌, Some, Option, List, sym, ap, arith}
+use Rattle.std.proofs.Common.{◌≡◌, ◌+◌, ◌-◌, ◌*◌, ◌≤◌, ◌∙◌, Option, List, sym, ap, arith}
 use Rattle.std.specs.List.{fold}
 use Rattle.display_list.specs.Trees.{Trees, told, tree_of, trees_of, tree_nesting, nesting_of}
 use Rattle.list_summary.proofs.Counted.{item_nesting}

@@ -1,4 +1,4 @@
-use Rattle.std.proofs.Common.{◌≡◌, ◌∙◌, sym, ap, subst, option_copied}
+use Rattle.std.proofs.Common.{◌∙◌, sym, ap, subst, option_copied}
 use Rattle.painter.specs.Facts.{Reaches}
 use Rattle.painter.specs.Painter.{ScenePixel}
 use Rattle.painter.proofs.Reaching.{has_placed}

@@ -1,7 +1,6 @@
-use Rattle.std.proofs.Common.{◌≡◌, ◌∙◌, true, sym, ap, subst}
+use Rattle.std.proofs.Common.{◌≡◌, ◌∙◌, true, sym, ap}
 use Rattle.wr_geom.specs.Bounds.{Bounds, holds}
 use Rattle.wr_geom.specs.declared.point.Point.{Point}
-use Rattle.clip_masks.specs.Corners.{HasPixel}
 use Rattle.clip_masks.proofs.Points.{has_pixel}
 use Rattle.painter.specs.PlacedList.{item_rect}
 use Rattle.painter.proofs.pixel.ScenePixel.rect_here.Goals as goal

@@ -1,6 +1,6 @@
 use mir.Val.{SFits}
 use Rattle.std.proofs.lemmas.Int.{to_z-of_z}
-use Rattle.std.proofs.Common.{rules, w32, ◌∙◌, refl, sym, ap, ◌+ℤ◌}
+use Rattle.std.proofs.Common.{rules, w32, ◌∙◌, sym, ap, ◌+ℤ◌}
 use Rattle.wr_geom.specs.declared.point.Point.{Point}
 use Rattle.image_store.specs.StoreModel.{glyph_at}
 use Rattle.primitives.specs.Colours.{mask_over}
