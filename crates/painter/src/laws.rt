@@ -39,7 +39,7 @@ pub fn context_laws()
 {}
 
 /// 64 levels of pipelines are enough, and a pipeline gives what its list gives. It does nothing.
-pub fn level_laws()
+pub fn paint_laws()
     ensures colours { MoreLevelsPaintTheSame }
     ensures tops { MoreLevelsHaveTheSameTops }
     ensures list { PipelinePaintsItsList }
