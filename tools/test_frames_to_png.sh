@@ -19,7 +19,7 @@ for name in half_red panes; do
     cmp -s "$work/$name-1.png" "examples/$name-1.png" || fail "the first picture of $name differs"
 done
 cmp -s "$work/panes-2.png" examples/panes-2.png || fail "the second picture of panes differs"
-printf 'frame: 96x64, pipeline 0 epoch 1: %s\nrefused: code 255, place 0\naccepted\nframe: 96x64, pipeline 0 epoch 2: %s\n' \
+printf 'frame: 96x64, pipeline 0 epoch 1: %s\nrefused: code 3, place 5\naccepted\nframe: 96x64, pipeline 0 epoch 2: %s\n' \
     "$work/panes-1.png" "$work/panes-2.png" | cmp -s - "$work/panes.txt" || fail "the lines for panes differ"
 
 # Each file that breaks off is refused.

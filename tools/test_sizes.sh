@@ -23,13 +23,14 @@ printf 'WRF1X\016\016\000\000\000Z' > "$work/wanted"
 replay "a payload of 64 MiB"
 written "a payload of 64 MiB"
 
-# A list of 5 MiB, 209,715 solids. It has no fault, but more solids than are built: code 255, at byte 0.
+# A list of 5 MiB, 209,715 solids. It has no fault, but a scene has at most 65,536 items: code 15, at the payload's
+# length, 5,242,889.
 printf '\006\000\000\377\377\000\000\000\000\000\000\000\000\001\000\000\000\001\000\000\000\000\000\377\377' > "$work/solids"
 for _ in 1 2 3 4 5 6 7 8 9 10 11 12 13 14 15 16 17 18; do
     cat "$work/solids" "$work/solids" > "$work/twice" && mv "$work/twice" "$work/solids"
 done
 { printf 'WRT1T\011\000\120\000\000\000\001\000\001\001\000\000\000\374\377\117\000'; head -c 5242875 "$work/solids"; printf '\000Z'; } > "$work/in"
-printf 'WRF1X\377\000\000\000\000Z' > "$work/wanted"
+printf 'WRF1X\017\011\000\120\000Z' > "$work/wanted"
 replay "a list of 5 MiB"
 written "a list of 5 MiB"
 

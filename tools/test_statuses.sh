@@ -27,6 +27,15 @@ printf 'WRF1' > "$work/magic"
 expect "a whole file" $? 0 ""
 written "a whole file" examples/half_red.wrf
 
+"$program" replay < examples/window.wrt > "$work/out" 2> "$work/note"
+expect "a window" $? 0 ""
+if command -v python3 > /dev/null; then
+    python3 tools/frames_to_png.py "$work/out" "$work/window" > /dev/null || fail "a window's frames aren't read"
+    for frame in 1 2 3; do
+        cmp -s "$work/window-$frame.png" "examples/window-$frame.png" || fail "frame $frame of a window differs"
+    done
+fi
+
 "$program" < examples/half_red.wrt > "$work/out" 2> "$work/note"
 expect "no word" $? 1 "usage: wrreplay replay [--stats] | paint | load NUMBER COUNT"
 written "no word" "$work/nothing"
