@@ -9,3 +9,5 @@ pub mod Levels
 pub mod TopColours
 pub mod Runs
 pub mod Picture
+pub mod CommonClips
+pub mod OutsideShown

@@ -80,7 +80,7 @@ tops_pixel : (s : ScenePixel) (ts : List TopItem) (backdrop : Px) → IsScenePix
 tops_pixel s [] backdrop is are b = b
 tops_pixel s (t ∷ ts) backdrop is are b = tops_pixel s ts (paint_top s t backdrop) is (All-tail IsTopItem t ts are) (top_pixel s t backdrop is (All-head IsTopItem t ts are) b)
 
-all_split : (xs ys : List TopItem) → All IsTopItem (xs ++ ys) → All IsTopItem xs × All IsTopItem ys
+pub all_split : (xs ys : List TopItem) → All IsTopItem (xs ++ ys) → All IsTopItem xs × All IsTopItem ys
 all_split [] ys are = (All-nil IsTopItem, are)
 all_split (x ∷ xs) ys are =
     let rest = all_split xs ys (All-tail IsTopItem x (xs ++ ys) are) in

@@ -29,8 +29,8 @@ use Rattle.primitives.specs.declared.kind.Kind.TheVariants as kind
 use Rattle.primitives.proofs.Colours.{colour_outside}
 use Rattle.painter.specs.PlacedList.{PlacedList, node_point, item_rect, chain_clips, first_corner, iframe_clips, opacity_of, is_none, stands_around, is_plain}
 use Rattle.painter.specs.Painter.{ScenePixel, ListPainter, image_kind, text_kind, primitive_of, under, paint_primitive, paint_group, paint_tree, paint_trees, paint_list, paint_levels, paint_pipeline}
-use Rattle.painter.specs.TopItems.{around_iframe, list_tops, tops_in}
-use Rattle.painter.specs.Laws.{AreByteOpacities, IsScenePixel, GivesPixels, own_chain, PrimitiveStaysInside, ItemStaysInside, IframeStaysInside}
+use Rattle.painter.specs.TopItems.{around_iframe, list_tops, tops_in, own_chain}
+use Rattle.painter.specs.Laws.{AreByteOpacities, IsScenePixel, GivesPixels, PrimitiveStaysInside, ItemStaysInside, IframeStaysInside}
 use Rattle.painter.specs.Laws.{NothingUnderNoCover, NothingWhereClippedAway, EmptyIframePaintsNothing, EmptyIframeHasNoTops}
 use Rattle.painter.proofs.Enough.{placed}
 use Rattle.painter.proofs.Pixels.{solid_pixel, image_pixel, border_item_pixel, text_item_pixel, faded_pixel, trees_pixel, levels_pixel}

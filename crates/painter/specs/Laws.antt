@@ -16,7 +16,7 @@ use Rattle.primitives.specs.PrimitiveModel.{PrimitiveModel}
 use Rattle.scene_limits.specs.Places.{zero_point}
 use Rattle.painter.specs.PlacedList.{PlacedList, placed_at, item_rect, chain_clips, opacity_of, is_plain}
 use Rattle.painter.specs.Painter.{ScenePixel, ListPainter, under, paint_primitive, paint_tree, paint_trees, paint_list, paint_levels, paint_pipeline}
-use Rattle.painter.specs.TopItems.{Home, Around, TopItem, TopLister, tree_tops, trees_tops, list_tops, tops_in, pipeline_tops, top_items, home_of}
+use Rattle.painter.specs.TopItems.{Home, Around, TopItem, TopLister, tree_tops, trees_tops, list_tops, tops_in, pipeline_tops, top_items, own_chain, home_of}
 use Rattle.painter.specs.Slices.{Slice, runs, joined_tops, slices_of, paint_tops, picture_over}
 
 -- ---- what is drawn
@@ -55,16 +55,6 @@ primitive_spot (text spot font colour glyphs) = Some spot
 primitive_spot (context push ts) = None
 primitive_spot (iframe spot pipeline) = None
 primitive_spot (hit_area spot tag) = None
-
--- the chain of clips that an item names
-abbrev pub own_chain : Tree → Option ℕ
-own_chain (solid spot colour) = spot.chain
-own_chain (image spot key u v) = spot.chain
-own_chain (border spot widths top right bottom left_ radii) = spot.chain
-own_chain (text spot font colour glyphs) = spot.chain
-own_chain (context push ts) = push.chain
-own_chain (iframe spot pipeline) = spot.chain
-own_chain (hit_area spot tag) = spot.chain
 
 -- ---- colours that are painted
 

@@ -5,3 +5,5 @@ pub mod Slices
 pub mod Progress
 pub mod Facts
 pub mod Laws
+pub mod Shared
+pub mod SharedLaws

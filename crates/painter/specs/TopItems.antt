@@ -100,6 +100,16 @@ node_of (context push ts) = push.node
 node_of (iframe spot pipeline) = spot.node
 node_of (hit_area spot tag) = spot.node
 
+-- the chain of clips that an item names
+abbrev pub own_chain : Tree → Option ℕ
+own_chain (solid spot colour) = spot.chain
+own_chain (image spot key u v) = spot.chain
+own_chain (border spot widths top right bottom left_ radii) = spot.chain
+own_chain (text spot font colour glyphs) = spot.chain
+own_chain (context push ts) = push.chain
+own_chain (iframe spot pipeline) = spot.chain
+own_chain (hit_area spot tag) = spot.chain
+
 -- the home of a top item
 abbrev pub home_of : TopItem → Home
 home_of t = node_home t.around t.list (node_of t.item)

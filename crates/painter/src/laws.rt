@@ -10,6 +10,8 @@ ghost use Rattle.painter.specs.Laws.{PipelinePaintsItsList, PipelineHasItsListsT
 ghost use Rattle.painter.specs.Laws.{OpaqueSolidHides, TopsAreDrawn, TopsPaintTheScene};
 ghost use Rattle.painter.specs.Laws.{RunsHaveOneHome, NeighbouringRunsDiffer, RunsHaveAllTops, SlicesHaveAllTops, SlicesAreFew};
 ghost use Rattle.painter.specs.Laws.{OneHomeIsOneGroup, PictureIsPixel, PictureIsPremultiplied};
+ghost use Rattle.painter.specs.SharedLaws.{EachClipHasAHome, SharedBeginEach, SharedAreSharable, SharedAreMost};
+ghost use Rattle.painter.specs.SharedLaws.{HomelessShareNone, SlicesHaveTops, ClearOutsideShown};
 
 /// What is painted over a pixel is a pixel, and premultiplied over any premultiplied colour. It does nothing.
 pub fn pixel_laws()
@@ -68,4 +70,16 @@ pub fn picture_laws()
     ensures pixel { PictureIsPixel }
     ensures premultiplied { PictureIsPremultiplied }
     ensures one_home { OneHomeIsOneGroup }
+{}
+
+/// The clips that a slice shares stand first in every one of its top items, and outside of them the slice
+/// is clear. It does nothing.
+pub fn shared_laws()
+    ensures homes { EachClipHasAHome }
+    ensures first { SharedBeginEach }
+    ensures sharable { SharedAreSharable }
+    ensures most { SharedAreMost }
+    ensures homeless { HomelessShareNone }
+    ensures some { SlicesHaveTops }
+    ensures shown { ClearOutsideShown }
 {}

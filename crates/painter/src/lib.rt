@@ -12,6 +12,7 @@ mod shown;
 mod tops;
 
 pub use laws::{
-    context_laws, paint_laws, picture_laws, pixel_laws, slice_laws, top_laws, unchanged_laws,
+    context_laws, paint_laws, picture_laws, pixel_laws, shared_laws, slice_laws, top_laws,
+    unchanged_laws,
 };
 pub use tops::picture_at;
