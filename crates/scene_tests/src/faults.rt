@@ -1,9 +1,8 @@
 //! Operations that are refused, at their positions in a payload.
 
-use crate::stage::{NO_FAULT, Stage, image};
+use crate::stage::{NO_FAULT, Stage, image, on_a_stage};
 use crate::stored::{ADD_RED, DELETE, GLYPH, RED, UPDATE_BLUE};
 use image_store::Gens;
-use std::test::Fail;
 
 /// Deletes image 9 twice.
 const DELETE_TWICE: [u8; 10] = [7, 9, 0, 0, 0, 7, 9, 0, 0, 0];
@@ -13,20 +12,27 @@ fn is_red(stage: &Stage) -> bool {
     image(&stage.scene, 0, 9) == Some((1, RED)) && stage.gens.last() == 1
 }
 
-#[test]
-fn an_image_is_deleted_once(rt: HostRuntime) -> Result<(), Fail> {
-    let mut stage = Stage::start(rt.alloc());
+/// Whether the second is refused, and the first with it.
+fn deletes_once(stage: &mut Stage) -> Result<bool, (u8, u32)> {
     stage.apply(0, 1, &ADD_RED)?;
-    assert_eq!(rt; stage.apply(0, 2, &DELETE_TWICE), Err((10, 10)));
-    assert!(rt; is_red(&stage));
-    Ok(())
+    let refused = stage.apply(0, 2, &DELETE_TWICE) == Err((10, 10));
+    Ok(refused && is_red(stage))
+}
+
+#[test]
+fn an_image_is_deleted_once(rt: HostRuntime) {
+    assert_eq!(rt; on_a_stage(rt.alloc(), deletes_once), Ok(true));
+}
+
+/// Whether an image that is absent is neither deleted nor updated.
+fn refuses_the_absent(stage: &mut Stage) -> Result<bool, (u8, u32)> {
+    let refused = stage.apply(0, 1, &DELETE) == Err((10, 5));
+    Ok(refused && stage.apply(0, 1, &UPDATE_BLUE) == Err((10, 5)))
 }
 
 #[test]
 fn an_absent_image_is_not_changed(rt: HostRuntime) {
-    let mut stage = Stage::start(rt.alloc());
-    assert_eq!(rt; stage.apply(0, 1, &DELETE), Err((10, 5)));
-    assert_eq!(rt; stage.apply(0, 1, &UPDATE_BLUE), Err((10, 5)));
+    assert_eq!(rt; on_a_stage(rt.alloc(), refuses_the_absent), Ok(true));
 }
 
 /// An update to blue, and then a list that begins with a context of mode 9.
@@ -37,14 +43,16 @@ const UPDATE_AND_BAD_LIST: [u8; 37] = [
     0, // End
 ];
 
-#[test]
-fn a_refused_transaction_leaves_all(rt: HostRuntime) -> Result<(), Fail> {
-    let mut stage = Stage::start(rt.alloc());
+/// Whether the update is refused with the list.
+fn leaves_all(stage: &mut Stage) -> Result<bool, (u8, u32)> {
     stage.apply(0, 1, &ADD_RED)?;
-    assert_eq!(rt; stage.apply(0, 2, &UPDATE_AND_BAD_LIST), Err((7, 38)));
-    assert!(rt; is_red(&stage));
-    assert!(rt; stage.scene.list(0).is_none());
-    Ok(())
+    let refused = stage.apply(0, 2, &UPDATE_AND_BAD_LIST) == Err((7, 38));
+    Ok(refused && is_red(stage) && stage.scene.list(0).is_none())
+}
+
+#[test]
+fn a_refused_transaction_leaves_all(rt: HostRuntime) {
+    assert_eq!(rt; on_a_stage(rt.alloc(), leaves_all), Ok(true));
 }
 
 /// Scroll number 3 to (5, 6), and then an image of one red texel under key 8.
@@ -59,25 +67,35 @@ fn add_last(stage: &mut Stage) -> Result<(), (u8, u32)> {
     stage.apply(0, 1, &ADD_RED)
 }
 
-#[test]
-fn the_counter_has_an_end(rt: HostRuntime) -> Result<(), Fail> {
-    let mut stage = Stage::start(rt.alloc());
-    add_last(&mut stage)?;
-    assert_eq!(rt; stage.apply(0, 2, &SCROLL_AND_ADD), Err((13, 15)));
-    assert_eq!(rt; stage.gens.last(), u64::MAX);
-    assert_eq!(rt; image(&stage.scene, 0, 9), Some((u64::MAX, RED)));
-    assert_eq!(rt; image(&stage.scene, 0, 8), None);
-    assert!(rt; stage.scene.moves(0).is_empty());
-    Ok(())
+/// Whether image 9 is the last one that was added, and nothing is stored beside it.
+fn is_last(stage: &Stage) -> bool {
+    let counted = stage.gens.last() == u64::MAX
+        && image(&stage.scene, 0, 9) == Some((u64::MAX, RED));
+    counted && image(&stage.scene, 0, 8).is_none() && stage.scene.moves(0).is_empty()
+}
+
+/// Whether an image after the last is refused, with the scroll before it.
+fn ends_the_counter(stage: &mut Stage) -> Result<bool, (u8, u32)> {
+    add_last(stage)?;
+    let refused = stage.apply(0, 2, &SCROLL_AND_ADD) == Err((13, 15));
+    Ok(refused && is_last(stage))
 }
 
 #[test]
-fn updates_and_masks_count_too(rt: HostRuntime) -> Result<(), Fail> {
-    let mut stage = Stage::start(rt.alloc());
-    add_last(&mut stage)?;
-    assert_eq!(rt; stage.apply(0, 1, &UPDATE_BLUE), Err((13, 4)));
-    assert_eq!(rt; stage.apply(0, 1, &GLYPH), Err((13, 4)));
-    Ok(())
+fn the_counter_has_an_end(rt: HostRuntime) {
+    assert_eq!(rt; on_a_stage(rt.alloc(), ends_the_counter), Ok(true));
+}
+
+/// Whether an update and a mask after the last are refused.
+fn counts_each(stage: &mut Stage) -> Result<bool, (u8, u32)> {
+    add_last(stage)?;
+    let refused = stage.apply(0, 1, &UPDATE_BLUE) == Err((13, 4));
+    Ok(refused && stage.apply(0, 1, &GLYPH) == Err((13, 4)))
+}
+
+#[test]
+fn updates_and_masks_count_too(rt: HostRuntime) {
+    assert_eq!(rt; on_a_stage(rt.alloc(), counts_each), Ok(true));
 }
 
 /// Updates of image 9 and adds that are refused where it has one texel, and their codes and positions.
@@ -88,15 +106,20 @@ const REFUSED: [(&[u8], u8, u32); 4] = [
     (&[5, 9, 0, 0, 0, 2, 0, 1, 0, 1, 1, 1, 1, 0, 0, 1, 0], 11, 17),
 ];
 
-#[test]
-fn a_refusal_names_its_field(rt: HostRuntime) -> Result<(), Fail> {
-    let mut stage = Stage::start(rt.alloc());
+/// Whether each is refused at its field, and nothing changes.
+fn names_the_field(stage: &mut Stage) -> Result<bool, (u8, u32)> {
     stage.apply(0, 1, &ADD_RED)?;
     for (ops, code, at) in &REFUSED {
-        assert_eq!(rt; stage.apply(0, 1, *ops), Err((*code, *at)));
+        if stage.apply(0, 1, *ops) != Err((*code, *at)) {
+            return Ok(false);
+        }
     }
-    assert!(rt; is_red(&stage));
-    Ok(())
+    Ok(is_red(stage))
+}
+
+#[test]
+fn a_refusal_names_its_field(rt: HostRuntime) {
+    assert_eq!(rt; on_a_stage(rt.alloc(), names_the_field), Ok(true));
 }
 
 /// Tiles dropped by pipeline 1, a list of an undefined tag, and one before an operation of another.
@@ -106,12 +129,16 @@ const BAD_LIST: [u8; 10] = [1, 0, 0, 0, 0, 1, 0, 0, 0, 99];
 
 const TWO_FAULTS: [u8; 11] = [1, 0, 0, 0, 0, 1, 0, 0, 0, 99, 99];
 
+/// Whether a fault after a list comes before one within it.
+fn reads_before_lists(stage: &mut Stage) -> Result<bool, (u8, u32)> {
+    let not_root = stage.apply(1, 1, &DROP_TILES) == Err((9, 4));
+    let first = stage.apply(0, 2, &TWO_FAULTS) == Err((1, 14));
+    Ok(not_root && first && stage.apply(0, 1, &BAD_LIST) == Err((1, 13)))
+}
+
 #[test]
 fn the_payload_is_read_before_its_lists(rt: HostRuntime) {
-    let mut stage = Stage::start(rt.alloc());
-    assert_eq!(rt; stage.apply(1, 1, &DROP_TILES), Err((9, 4)));
-    assert_eq!(rt; stage.apply(0, 2, &TWO_FAULTS), Err((1, 14)));
-    assert_eq!(rt; stage.apply(0, 1, &BAD_LIST), Err((1, 13)));
+    assert_eq!(rt; on_a_stage(rt.alloc(), reads_before_lists), Ok(true));
 }
 
 /// Whether nothing was added or stored.
@@ -121,15 +148,14 @@ fn is_untouched(stage: &Stage) -> bool {
 }
 
 /// Whether an image was added, or memory ran out and nothing has changed.
-fn adds_or_stays(stage: &mut Stage) -> bool {
+fn adds_or_stays(stage: &mut Stage) -> Result<bool, (u8, u32)> {
     match stage.apply(0, 2, &SCROLL_AND_ADD) {
-        Ok(()) => image(&stage.scene, 0, 8) == Some((1, RED)),
-        Err(error) => error == NO_FAULT && is_untouched(stage),
+        Ok(()) => Ok(image(&stage.scene, 0, 8) == Some((1, RED))),
+        Err(error) => Ok(error == NO_FAULT && is_untouched(stage)),
     }
 }
 
 #[test]
 fn without_memory_nothing_changes(rt: HostRuntime) {
-    let mut stage = Stage::start(rt.alloc());
-    assert!(rt; adds_or_stays(&mut stage));
+    assert_eq!(rt; on_a_stage(rt.alloc(), adds_or_stays), Ok(true));
 }

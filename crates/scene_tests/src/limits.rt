@@ -1,8 +1,7 @@
-//! Lists that are refused, and limits of the whole scene at the end of a payload.
+//! Limits of the whole scene, which are broken at the end of a payload.
 
-use crate::stage::{NO_FAULT, Stage, payload};
+use crate::stage::{NO_FAULT, Stage, on_a_stage, payload};
 use std::alloc::{AllocError, Global};
-use std::test::Fail;
 
 /// A context of mode 0, and its end.
 const PUSH: [u8; 10] = [10, 0, 0, 255, 255, 255, 255, 255, 0, 0];
@@ -63,55 +62,18 @@ fn apply_contexts(
     }
 }
 
-/// A Solid to x = 1048576.
-const WIDE: [u8; 25] = [
-    6, 0, 0, 255, 255, 0, 0, 0, 0, 0, 0, 0, 0, 0, 0, 16, 0, 1, 0, 0, 0, 1, 2, 3, 4,
-];
-
-/// One to x = 1048577.
-const TOO_WIDE: [u8; 25] = [
-    6, 0, 0, 255, 255, 0, 0, 0, 0, 0, 0, 0, 0, 1, 0, 16, 0, 1, 0, 0, 0, 1, 2, 3, 4,
-];
-
-#[test]
-fn a_coordinate_has_its_range(rt: HostRuntime) -> Result<(), Fail> {
-    let mut stage = Stage::start(rt.alloc());
-    apply_list(&mut stage, 0, &WIDE)?;
-    assert!(rt; stage.scene.list(0).is_some());
-    assert_eq!(rt; apply_list(&mut stage, 0, &TOO_WIDE), Err((3, 26)));
-    Ok(())
-}
-
-/// A clip of mode in with sides of 4, whose radii at the top are 3 and 2.
-const ROUND: [u8; 36] = [
-    4, 0, 0, 0, 0, 0, 0, 0, 0, 0, 0, 0, 4, 0, 0, 0, 4, 0, 0, 0, // RoundClip
-    3, 0, 3, 0, 2, 0, 0, 0, 0, 0, 0, 0, 0, 0, 0, 0, // its radii
-];
-
-#[test]
-fn radii_fit_their_side(rt: HostRuntime) {
-    let mut stage = Stage::start(rt.alloc());
-    assert_eq!(rt; apply_list(&mut stage, 0, &ROUND), Err((12, 33)));
-    assert!(rt; stage.scene.list(0).is_none());
+/// Whether 33 contexts around an Iframe leave room for 31, and not for 32.
+fn nests_through_iframes(stage: &mut Stage) -> Result<bool, (u8, u32)> {
+    apply_contexts(stage, 0, 33, &IFRAME)?;
+    let refused = apply_contexts(stage, 1, 32, &[]) == Err((16, 366));
+    let undrawn = !stage.scene.is_drawn(1);
+    apply_contexts(stage, 1, 31, &[])?;
+    Ok(refused && undrawn && stage.scene.is_drawn(1))
 }
 
 #[test]
-fn contexts_are_64_deep(rt: HostRuntime) -> Result<(), Fail> {
-    let mut stage = Stage::start(rt.alloc());
-    apply_contexts(&mut stage, 0, 64, &[])?;
-    assert_eq!(rt; apply_contexts(&mut stage, 0, 65, &[]), Err((13, 653)));
-    Ok(())
-}
-
-#[test]
-fn contexts_go_through_iframes(rt: HostRuntime) -> Result<(), Fail> {
-    let mut stage = Stage::start(rt.alloc());
-    apply_contexts(&mut stage, 0, 33, &IFRAME)?;
-    assert_eq!(rt; apply_contexts(&mut stage, 1, 32, &[]), Err((16, 366)));
-    assert!(rt; !stage.scene.is_drawn(1));
-    apply_contexts(&mut stage, 1, 31, &[])?;
-    assert!(rt; stage.scene.is_drawn(1));
-    Ok(())
+fn contexts_go_through_iframes(rt: HostRuntime) {
+    assert_eq!(rt; on_a_stage(rt.alloc(), nests_through_iframes), Ok(true));
 }
 
 /// Two nodes, each 2^20 pixels to the right of its parent.
@@ -149,14 +111,17 @@ fn stairs(stage: &mut Stage) -> Result<(), (u8, u32)> {
     Ok(())
 }
 
+/// Whether an Iframe may stand so far out that the pipeline it names can have no list.
+fn stands_far_out(stage: &mut Stage) -> Result<bool, (u8, u32)> {
+    stairs(stage)?;
+    let drawn = stage.scene.is_drawn(42);
+    let refused = apply_list(stage, 43, &[]) == Err((16, 14));
+    Ok(drawn && refused && stage.scene.list(43).is_none())
+}
+
 #[test]
-fn an_iframe_far_out(rt: HostRuntime) -> Result<(), Fail> {
-    let mut stage = Stage::start(rt.alloc());
-    stairs(&mut stage)?;
-    assert!(rt; stage.scene.is_drawn(42));
-    assert_eq!(rt; apply_list(&mut stage, 43, &[]), Err((16, 14)));
-    assert!(rt; stage.scene.list(43).is_none());
-    Ok(())
+fn an_iframe_far_out(rt: HostRuntime) {
+    assert_eq!(rt; on_a_stage(rt.alloc(), stands_far_out), Ok(true));
 }
 
 /// A payload with a mask of so many pixels a side.
@@ -185,26 +150,15 @@ fn fill(stage: &mut Stage) -> Result<(), (u8, u32)> {
     Ok(())
 }
 
-/// Deletes the font of these masks.
-const DELETE_FONT: [u8; 3] = [9, 1, 0];
-
-#[test]
-fn stored_pixels_have_a_limit(rt: HostRuntime) -> Result<(), Fail> {
-    let mut stage = Stage::start(rt.alloc());
-    fill(&mut stage)?;
-    assert_eq!(rt; stage.scene.store().pixels(), 1 << 26);
-    assert_eq!(rt; apply_mask(&mut stage, 4, 1), Err((17, 14)));
-    assert_eq!(rt; stage.scene.store().pixels(), 1 << 26);
-    assert_eq!(rt; stage.gens.last(), 4);
-    Ok(())
+/// Whether 2^26 pixels may be stored, and one more is refused.
+fn stores_as_many(stage: &mut Stage) -> Result<bool, (u8, u32)> {
+    fill(stage)?;
+    let full = stage.scene.store().pixels() == 1 << 26;
+    let refused = apply_mask(stage, 4, 1) == Err((17, 14));
+    Ok(full && refused && stage.scene.store().pixels() == 1 << 26 && stage.gens.last() == 4)
 }
 
 #[test]
-fn a_deleted_font_frees_its_pixels(rt: HostRuntime) -> Result<(), Fail> {
-    let mut stage = Stage::start(rt.alloc());
-    apply_mask(&mut stage, 0, 64)?;
-    assert_eq!(rt; stage.scene.store().pixels(), 4_096);
-    stage.apply(0, 1, &DELETE_FONT)?;
-    assert_eq!(rt; stage.scene.store().pixels(), 0);
-    Ok(())
+fn stored_pixels_have_a_limit(rt: HostRuntime) {
+    assert_eq!(rt; on_a_stage(rt.alloc(), stores_as_many), Ok(true));
 }

@@ -109,6 +109,17 @@ impl Stage {
     }
 }
 
+/// What a check answers on a scene before the first transaction.
+pub fn on_a_stage<F: FnOnce(&mut Stage) -> Result<bool, (u8, u32)>>(
+    alloc: Global,
+    check: F,
+) -> Result<bool, (u8, u32)>
+    requires { F.IsAlwaysCallable check }
+{
+    let mut stage = Stage::start(alloc);
+    check(&mut stage)
+}
+
 /// The generation of an image and its first texel.
 pub fn image(scene: &Scene, pipeline: u8, key: u32) -> Option<(u64, Px)> {
     let image = scene.store().image(pipeline, key)?;

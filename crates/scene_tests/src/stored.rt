@@ -1,9 +1,8 @@
 //! Images and masks of a scene.
 
-use crate::stage::{Stage, glyph, image};
+use crate::stage::{Stage, glyph, image, on_a_stage};
 use blend_rules::Px;
 use scene_state::Scene;
-use std::test::Fail;
 
 pub const RED: Px = Px {
     b: 0,
@@ -28,34 +27,41 @@ pub const UPDATE_BLUE: [u8; 17] = [6, 9, 0, 0, 0, 0, 0, 0, 0, 1, 0, 1, 0, 255, 0
 /// Deletes it.
 pub const DELETE: [u8; 5] = [7, 9, 0, 0, 0];
 
-#[test]
-fn an_image_is_added(rt: HostRuntime) -> Result<(), Fail> {
-    let mut stage = Stage::start(rt.alloc());
+/// Whether an image is added to its own pipeline.
+fn adds_an_image(stage: &mut Stage) -> Result<bool, (u8, u32)> {
     stage.apply(1, 1, &ADD_RED)?;
-    assert_eq!(rt; image(&stage.scene, 1, 9), Some((1, RED)));
-    assert_eq!(rt; image(&stage.scene, 0, 9), None);
-    assert_eq!(rt; stage.scene.store().pixels(), 1);
-    Ok(())
+    let added = image(&stage.scene, 1, 9) == Some((1, RED));
+    Ok(added && image(&stage.scene, 0, 9).is_none() && stage.scene.store().pixels() == 1)
 }
 
 #[test]
-fn an_image_is_updated(rt: HostRuntime) -> Result<(), Fail> {
-    let mut stage = Stage::start(rt.alloc());
+fn an_image_is_added(rt: HostRuntime) {
+    assert_eq!(rt; on_a_stage(rt.alloc(), adds_an_image), Ok(true));
+}
+
+/// Whether it becomes blue, of the next generation.
+fn updates_an_image(stage: &mut Stage) -> Result<bool, (u8, u32)> {
     stage.apply(1, 1, &ADD_RED)?;
     stage.apply(1, 1, &UPDATE_BLUE)?;
-    assert_eq!(rt; image(&stage.scene, 1, 9), Some((2, BLUE)));
-    Ok(())
+    Ok(image(&stage.scene, 1, 9) == Some((2, BLUE)))
 }
 
 #[test]
-fn an_image_is_deleted(rt: HostRuntime) -> Result<(), Fail> {
-    let mut stage = Stage::start(rt.alloc());
+fn an_image_is_updated(rt: HostRuntime) {
+    assert_eq!(rt; on_a_stage(rt.alloc(), updates_an_image), Ok(true));
+}
+
+/// Whether it goes with its pixels, and the counter stays.
+fn deletes_an_image(stage: &mut Stage) -> Result<bool, (u8, u32)> {
     stage.apply(1, 1, &ADD_RED)?;
     stage.apply(1, 1, &DELETE)?;
-    assert_eq!(rt; image(&stage.scene, 1, 9), None);
-    assert_eq!(rt; stage.gens.last(), 1);
-    assert_eq!(rt; stage.scene.store().pixels(), 0);
-    Ok(())
+    let deleted = image(&stage.scene, 1, 9).is_none() && stage.scene.store().pixels() == 0;
+    Ok(deleted && stage.gens.last() == 1)
+}
+
+#[test]
+fn an_image_is_deleted(rt: HostRuntime) {
+    assert_eq!(rt; on_a_stage(rt.alloc(), deletes_an_image), Ok(true));
 }
 
 /// Glyph 5 of font 1, of one pixel.
@@ -74,15 +80,18 @@ fn add_glyphs(stage: &mut Stage) -> Result<(), (u8, u32)> {
     stage.apply(1, 1, &GLYPH)
 }
 
-#[test]
-fn a_deleted_font_leaves_the_others(rt: HostRuntime) -> Result<(), Fail> {
-    let mut stage = Stage::start(rt.alloc());
-    add_glyphs(&mut stage)?;
+/// Whether a font goes with its pixels, and leaves another and the same one of another pipeline.
+fn deletes_a_font(stage: &mut Stage) -> Result<bool, (u8, u32)> {
+    add_glyphs(stage)?;
     stage.apply(0, 1, &DELETE_FONT)?;
-    assert_eq!(rt; glyph(&stage.scene, 0, 1, 5), None);
-    assert_eq!(rt; glyph(&stage.scene, 0, 2, 5), Some(2));
-    assert_eq!(rt; glyph(&stage.scene, 1, 1, 5), Some(3));
-    Ok(())
+    let deleted = glyph(&stage.scene, 0, 1, 5).is_none() && stage.scene.store().pixels() == 2;
+    let left = glyph(&stage.scene, 0, 2, 5) == Some(2);
+    Ok(deleted && left && glyph(&stage.scene, 1, 1, 5) == Some(3))
+}
+
+#[test]
+fn a_deleted_font_leaves_the_others(rt: HostRuntime) {
+    assert_eq!(rt; on_a_stage(rt.alloc(), deletes_a_font), Ok(true));
 }
 
 /// The list without items of epoch 7, scroll number 3 at (5, -2), offset property 4 at (6, 0) and opacity
@@ -134,14 +143,24 @@ const CHANGES: [&[u8]; 10] = [
     &DELETE_FONT, // DeleteFont
 ];
 
-#[test]
-fn the_scene_before_stays(rt: HostRuntime) -> Result<(), Fail> {
-    let mut stage = Stage::start(rt.alloc());
-    add_all(&mut stage)?;
+/// Whether an operation changes any of it for the next scene, and nothing of this one.
+fn changes_the_next(stage: &mut Stage, op: &[u8]) -> Result<bool, (u8, u32)> {
+    let after = stage.after(op)?;
+    Ok(!is_whole(&after) && is_whole(&stage.scene))
+}
+
+/// Whether each operation does.
+fn leaves_this_one(stage: &mut Stage) -> Result<bool, (u8, u32)> {
+    add_all(stage)?;
     for op in &CHANGES {
-        let after = stage.after(*op)?;
-        assert!(rt; !is_whole(&after));
-        assert!(rt; is_whole(&stage.scene));
+        if !changes_the_next(stage, *op)? {
+            return Ok(false);
+        }
     }
-    Ok(())
+    Ok(true)
+}
+
+#[test]
+fn the_scene_before_stays(rt: HostRuntime) {
+    assert_eq!(rt; on_a_stage(rt.alloc(), leaves_this_one), Ok(true));
 }
