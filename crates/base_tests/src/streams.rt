@@ -107,7 +107,6 @@ fn reads_numbers_from_the_lowest_byte(rt: HostRuntime) {
 fn faults_have_numbers_and_words(rt: HostRuntime) -> Result<(), Fail> {
     assert_eq!(rt; Code::BadTag.number(), 1);
     assert_eq!(rt; Code::TooManyPixels.number(), 17);
-    assert_eq!(rt; Code::NotBuilt.number(), 255);
     let fault = Fault {
         code: Code::BadMode,
         at: 12,

@@ -1,7 +1,7 @@
 -- The numbers of the fault codes.
 use Rattle.std.specs.Prelude.{ℕ}
 use Rattle.wr_io.specs.declared.fault.Code.{Code}
-use Rattle.wr_io.specs.declared.fault.Code.TheVariants.{BadTag, Short, BadNumber, BadRef, Nesting, BadColour, BadMode, IframeOrder, NotRoot, UnknownImage, BadPixels, BadRadius, Limit, Trailing, TooManyItems, TooDeep, TooManyPixels, NotBuilt}
+use Rattle.wr_io.specs.declared.fault.Code.TheVariants.{BadTag, Short, BadNumber, BadRef, Nesting, BadColour, BadMode, IframeOrder, NotRoot, UnknownImage, BadPixels, BadRadius, Limit, Trailing, TooManyItems, TooDeep, TooManyPixels}
 
 abbrev pub code_number : Code → ℕ
 code_number BadTag = 1
@@ -21,4 +21,3 @@ code_number Trailing = 14
 code_number TooManyItems = 15
 code_number TooDeep = 16
 code_number TooManyPixels = 17
-code_number NotBuilt = 255

@@ -44,12 +44,10 @@ pub enum Code {
     TooDeep = 16,
     #[error("too many stored pixels")]
     TooManyPixels = 17,
-    #[error("a form that isn't built yet")]
-    NotBuilt = 255,
 }
 
 impl Code {
-    /// The number in a refusal record: 1 to 17, and 255 for what isn't built yet.
+    /// The number in a refusal record: 1 to 17.
     pub fn number(self) -> u8
         ensures { result ≡ code_number self }
     {
