@@ -13,13 +13,13 @@ use Rattle.display_list.specs.ListModel.{ListModel}
 use Rattle.display_list.specs.Trees.{Tree, solid, image, border, text, context, iframe, hit_area, Trees, none, more, told, IsTree, AreTrees}
 use Rattle.display_list.proofs.TreeFacts.{list_trees}
 use Rattle.spatial_tree.specs.Moves.{MovesModel}
-use Rattle.pipelines.specs.Table.{pipeline_at, pipeline_list, IsListOf}
+use Rattle.pipelines.specs.Table.{pipeline_at, pipeline_list, IsListOf, AreByteOpacities}
 use Rattle.scene_limits.specs.Places.{zero_point}
 use Rattle.painter.specs.PlacedList.{PlacedList, item_rect, first_corner, is_plain}
 use Rattle.painter.specs.Painter.{ScenePixel, under, paint_pipeline}
 use Rattle.painter.specs.TopItems.{Home, Around, TopItem, TopLister, nothing_around, around_iframe, top_item, tree_tops, trees_tops, list_tops, tops_in, top_items, home_of, paint_top}
 use Rattle.painter.specs.Slices.{Slice, same_home, before_runs, runs, joined_tops, rest_in_one, slices_of, paint_tops, slice_colour, paint_slices, picture_over}
-use Rattle.painter.specs.Laws.{AreByteOpacities, IsScenePixel, IsTopItem, is_drawn, TopsAreDrawn, PictureIsPixel, PictureIsPremultiplied, OneHomeIsOneGroup}
+use Rattle.painter.specs.Laws.{IsScenePixel, IsTopItem, is_drawn, TopsAreDrawn, PictureIsPixel, PictureIsPremultiplied, OneHomeIsOneGroup}
 use Rattle.painter.proofs.Enough.{placed}
 use Rattle.painter.proofs.Pixels.{item_pixel, pipelines_pixel}
 use Rattle.painter.proofs.Runs.{home_self, slices_joined}
@@ -65,7 +65,7 @@ levels_drawn : (n : ℕ) (s : ScenePixel) → IsScenePixel s → GivesDrawn (top
 unfolding tops_in
 levels_drawn zero s is p origin a = All-nil IsTopItem
 levels_drawn (suc n) s is p origin a =
-    list_drawn (tops_in n s.pipelines) p (pipeline_at s.pipelines p).moves origin a (pipeline_list s.pipelines p) (is.opacities p) (is.lists.each p) (levels_drawn n s is)
+    list_drawn (tops_in n s.pipelines) p (pipeline_at s.pipelines p).moves origin a (pipeline_list s.pipelines p) (is.pipelines.opacities p) (is.pipelines.each p) (levels_drawn n s is)
 
 pub tops_drawn : TopsAreDrawn
 tops_drawn s is = levels_drawn 64 s is 0 zero_point nothing_around

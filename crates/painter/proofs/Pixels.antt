@@ -18,14 +18,14 @@ use Rattle.display_list.specs.Trees.{Tree, solid, image, border, text, context, 
 use Rattle.display_list.proofs.TreeFacts.{list_trees}
 use Rattle.image_store.specs.StoreModel.{StoreModel, IsStore}
 use Rattle.spatial_tree.specs.Moves.{MovesModel}
-use Rattle.pipelines.specs.Table.{pipeline_at, pipeline_list, IsListOf}
+use Rattle.pipelines.specs.Table.{pipeline_at, pipeline_list, IsListOf, AreByteOpacities}
 use Rattle.primitives.specs.declared.kind.Kind.TheVariants as kind
 use Rattle.primitives.specs.PrimitiveModel.{PrimitiveModel}
 use Rattle.primitives.specs.Colours.{kind_colour, primitive_colour}
 use Rattle.primitives.proofs.Colours.{colour_is_pixel, border_pixel, text_pixel}
 use Rattle.painter.specs.PlacedList.{PlacedList, placed_at, node_point, item_rect, chain_clips, first_corner, iframe_clips, or_own, bound_opacity, opacity_of, is_plain}
 use Rattle.painter.specs.Painter.{ScenePixel, ListPainter, image_kind, glyph_use, text_kind, primitive_of, under, paint_primitive, paint_group, paint_tree, paint_trees, paint_list, paint_levels}
-use Rattle.painter.specs.Laws.{AreByteOpacities, IsScenePixel, GivesPixels, ItemGivesPixel, ItemsGivePixel, PipelinesGivePixels, PipelinesGivePremultiplied}
+use Rattle.painter.specs.Laws.{IsScenePixel, GivesPixels, ItemGivesPixel, ItemsGivePixel, PipelinesGivePixels, PipelinesGivePremultiplied}
 use Rattle.painter.proofs.Enough.{placed}
 
 -- ---- what is laid
@@ -129,7 +129,7 @@ pub levels_pixel : (n : ℕ) (s : ScenePixel) → IsScenePixel s → GivesPixels
 unfolding paint_levels
 levels_pixel zero s is p origin cover backdrop lt b = b
 levels_pixel (suc n) s is p origin cover backdrop lt b =
-    list_pixel (paint_levels n s) s p (pipeline_at s.pipelines p).moves origin (pipeline_list s.pipelines p) cover backdrop is.store (is.opacities p) (is.lists.each p) (levels_pixel n s is) lt b
+    list_pixel (paint_levels n s) s p (pipeline_at s.pipelines p).moves origin (pipeline_list s.pipelines p) cover backdrop is.store (is.pipelines.opacities p) (is.pipelines.each p) (levels_pixel n s is) lt b
 
 pub pipelines_pixel : PipelinesGivePixels
 pipelines_pixel s is p origin cover backdrop lt b = levels_pixel 64 s is p origin cover backdrop lt b

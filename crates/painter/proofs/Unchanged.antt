@@ -23,14 +23,14 @@ use Rattle.display_list.specs.Trees.{Tree, solid, image, border, text, context, 
 use Rattle.display_list.proofs.TreeFacts.{list_trees}
 use Rattle.image_store.specs.StoreModel.{IsStore}
 use Rattle.spatial_tree.specs.Moves.{MovesModel}
-use Rattle.pipelines.specs.Table.{pipeline_at, pipeline_list, IsListOf}
+use Rattle.pipelines.specs.Table.{pipeline_at, pipeline_list, IsListOf, AreByteOpacities}
 use Rattle.primitives.specs.declared.kind.Kind.{Kind}
 use Rattle.primitives.specs.declared.kind.Kind.TheVariants as kind
 use Rattle.primitives.proofs.Colours.{colour_outside}
 use Rattle.painter.specs.PlacedList.{PlacedList, node_point, item_rect, chain_clips, first_corner, iframe_clips, opacity_of, is_none, stands_around, is_plain}
 use Rattle.painter.specs.Painter.{ScenePixel, ListPainter, image_kind, text_kind, primitive_of, under, paint_primitive, paint_group, paint_tree, paint_trees, paint_list, paint_levels, paint_pipeline}
 use Rattle.painter.specs.TopItems.{around_iframe, list_tops, tops_in, own_chain}
-use Rattle.painter.specs.Laws.{AreByteOpacities, IsScenePixel, GivesPixels, PrimitiveStaysInside, ItemStaysInside, IframeStaysInside}
+use Rattle.painter.specs.Laws.{IsScenePixel, GivesPixels, PrimitiveStaysInside, ItemStaysInside, IframeStaysInside}
 use Rattle.painter.specs.Laws.{NothingUnderNoCover, NothingWhereClippedAway, EmptyIframePaintsNothing, EmptyIframeHasNoTops}
 use Rattle.painter.proofs.Enough.{placed}
 use Rattle.painter.proofs.Pixels.{solid_pixel, image_pixel, border_item_pixel, text_item_pixel, faded_pixel, trees_pixel, levels_pixel}
@@ -130,7 +130,7 @@ bare_levels : (n : ℕ) (s : ScenePixel) → IsScenePixel s → LeavesUnderNone 
 unfolding paint_levels
 bare_levels zero s is p origin backdrop b = refl
 bare_levels (suc n) s is p origin backdrop b =
-    bare_list (paint_levels n s) s p (pipeline_at s.pipelines p).moves origin (pipeline_list s.pipelines p) backdrop is.store (is.opacities p) (is.lists.each p) (levels_pixel n s is) (bare_levels n s is) b
+    bare_list (paint_levels n s) s p (pipeline_at s.pipelines p).moves origin (pipeline_list s.pipelines p) backdrop is.store (is.pipelines.opacities p) (is.pipelines.each p) (levels_pixel n s is) (bare_levels n s is) b
 
 pub clipped_away : NothingWhereClippedAway
 clipped_away s l t cover backdrop is item e b =

@@ -1,6 +1,5 @@
 -- What holds of painted items, pipelines, top items and slices, as laws on the definitions.
 use Rattle.std.specs.Prelude.{◌≡◌, ◌≢◌, ℕ, ◌+◌, ◌<◌, ◌≤◌, ◌^◌, Bool, true, false, not, List, [], ◌∷◌, ◌++◌, length, All, Option, Some, None, IsTrue, IsFalse}
-use Rattle.std.specs.FinMap as map
 use Rattle.wr_geom.specs.Bounds.{holds}
 use Rattle.wr_geom.specs.declared.point.Point.{Point}
 use Rattle.blend_rules.specs.declared.colour.Px.{Px}
@@ -10,8 +9,7 @@ use Rattle.display_list.specs.declared.item.Spot.{Spot}
 use Rattle.display_list.specs.declared.token.Push.{Push}
 use Rattle.display_list.specs.Trees.{Tree, solid, image, border, text, context, iframe, hit_area, Trees, IsTree, AreTrees}
 use Rattle.image_store.specs.StoreModel.{IsStore}
-use Rattle.spatial_tree.specs.Moves.{MovesModel}
-use Rattle.pipelines.specs.Table.{PipelineMap, pipeline_at, pipeline_list, AreFit}
+use Rattle.pipelines.specs.Table.{PipelineMap, pipeline_list, AreByteOpacities, AreFit}
 use Rattle.primitives.specs.PrimitiveModel.{PrimitiveModel}
 use Rattle.scene_limits.specs.Places.{zero_point}
 use Rattle.painter.specs.PlacedList.{PlacedList, placed_at, item_rect, chain_clips, opacity_of, is_plain}
@@ -21,15 +19,10 @@ use Rattle.painter.specs.Slices.{Slice, runs, joined_tops, slices_of, paint_tops
 
 -- ---- what is drawn
 
--- each opacity property is a byte
-abbrev pub AreByteOpacities : MovesModel → Type 0
-AreByteOpacities moves = (id opacity : ℕ) → map.get moves.opacities id ≡ Some opacity → opacity < 2 ^ 8
-
--- the images and masks are whole, each list fits its pipeline, and the opacities of each pipeline are bytes
+-- the images and masks are whole, each list fits its pipeline, and opacities are bytes
 pub record IsScenePixel (s : ScenePixel) : Type 0 where
   pub store : IsStore s.store
-  pub lists : AreFit s.pipelines
-  pub opacities : (p : ℕ) → AreByteOpacities (pipeline_at s.pipelines p).moves
+  pub pipelines : AreFit s.pipelines
 
 -- the fields of an item are checked against the list, of which the opacities are bytes
 pub record IsItemOf (l : PlacedList) (t : Tree) : Type 0 where

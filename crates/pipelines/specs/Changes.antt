@@ -1,5 +1,5 @@
 -- What an operation does to its pipeline.
-use Rattle.std.specs.Prelude.{ℕ, ℤ, Some}
+use Rattle.std.specs.Prelude.{ℕ, ◌<◌, ◌^◌, ℤ, Some}
 use Rattle.std.specs.FinMap as map
 use Rattle.spatial_tree.specs.Moves.{MovesModel}
 use Rattle.field_forms.specs.Facts.{IsNear}
@@ -39,3 +39,9 @@ abbrev pub IsNearChange : Change → Type 0
 IsNearChange (changes.Scroll sid x y) = IsNear x × IsNear y
 IsNearChange (changes.Offset id x y) = IsNear x × IsNear y
 IsNearChange (changes.Opacity id opacity) = Unit {0}
+
+-- an opacity that it sets is a byte
+abbrev pub HasByteOpacity : Change → Type 0
+HasByteOpacity (changes.Scroll sid x y) = Unit {0}
+HasByteOpacity (changes.Offset id x y) = Unit {0}
+HasByteOpacity (changes.Opacity id opacity) = opacity < 2 ^ 8

@@ -1,7 +1,8 @@
 -- What each pipeline has, by its number.
-use Rattle.std.specs.Prelude.{◌≡◌, ℕ, Option, Some, None}
+use Rattle.std.specs.Prelude.{◌≡◌, ℕ, ◌<◌, ◌^◌, Option, Some, None}
 use Rattle.std.specs.Ordering.{nat_cmp}
 use Rattle.std.specs.FinMap as map
+use Rattle.spatial_tree.specs.Moves.{MovesModel}
 use Rattle.display_list.specs.ListModel.{ListModel}
 use Rattle.display_list.specs.Facts.{IsList}
 use Rattle.display_list.specs.Grammar.{Fits}
@@ -38,6 +39,11 @@ pub record IsListOf (p : ℕ) (l : ListModel) : Type 0 where
   pub list : IsList l
   pub fits : Fits p l
 
--- each pipeline's list fits it
+-- each opacity property is a byte
+abbrev pub AreByteOpacities : MovesModel → Type 0
+AreByteOpacities moves = (id opacity : ℕ) → map.get moves.opacities id ≡ Some opacity → opacity < 2 ^ 8
+
+-- each pipeline's list fits it, and its opacities are bytes
 pub record AreFit (pipelines : PipelineMap) : Type 0 where
   pub each : (p : ℕ) (l : ListModel) → pipeline_list pipelines p ≡ Some l → IsListOf p l
+  pub opacities : (p : ℕ) → AreByteOpacities (pipeline_at pipelines p).moves

@@ -1,8 +1,8 @@
 //! Changes of one pipeline in a map of them.
 
-ghost use Rattle.std.specs.Prelude.{◌≡◌, OnOk, OnErr};
+ghost use Rattle.std.specs.Prelude.{◌≡◌, ◌<◌, ◌^◌, OnOk, OnErr};
 ghost use Rattle.std.specs.FinMap as map;
-ghost use Rattle.pipelines.specs.Changes.{IsNearChange, changed, with_list, with_moves, with_pipeline};
+ghost use Rattle.pipelines.specs.Changes.{HasByteOpacity, IsNearChange, changed, with_list, with_moves, with_pipeline};
 
 use crate::{Listed, Pipeline};
 use containers::{NumberMap, Shared, number_map_laws};
@@ -16,6 +16,21 @@ pub enum Change {
     Scroll { sid: u16, x: i32, y: i32 },
     Offset { id: u16, x: i32, y: i32 },
     Opacity { id: u16, opacity: u8 },
+}
+
+/// A byte is below 256. It does nothing.
+fn know_byte(byte: u8)
+    ensures { byte < 2 ^ 8 }
+{}
+
+/// What the type of a change knows of its opacity. It does nothing.
+pub(crate) fn know_change(change: Change)
+    ensures { HasByteOpacity change }
+{
+    match change {
+        Change::Opacity { opacity, .. } => know_byte(opacity),
+        _ => {}
+    }
 }
 
 fn change_moves(moves: &mut Moves, change: Change) -> Result<(), NoMemory>

@@ -5,7 +5,7 @@ ghost use Rattle.std.specs.FinMap as map;
 ghost use Rattle.pipelines.specs.Table.{AreFit, IsListOf, pipeline_at};
 ghost use Rattle.pipelines.specs.Changes.{IsNearChange, changed, with_list, with_moves, with_pipeline};
 
-use crate::change::{put_change, put_list, remove};
+use crate::change::{know_change, put_change, put_list, remove};
 use crate::{Change, Listed, Pipeline};
 use containers::{NumberMap, Shared};
 use std::alloc::Global;
@@ -94,6 +94,7 @@ impl Pipelines {
         ensures ok { OnOk result (self.new ≡ with_pipeline pipeline (with_moves (changed change)) self.old) }
         ensures err { OnErr result (self.new ≡ self.old) }
     {
+        know_change(change);
         put_change(&mut self.present, self.alloc, pipeline, change)
     }
 }
