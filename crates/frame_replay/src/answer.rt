@@ -45,7 +45,7 @@ fn read(alloc: Global, payload: &[u8]) -> Result<Txn<'_>, ApplyError>
 
 /// The scene after the transaction that a payload spells, and whether it asks for a frame, or why it is refused.
 /// After an error the counter is as before.
-fn apply(
+pub(crate) fn apply(
     alloc: Global,
     payload: &[u8],
     scene: &Scene,

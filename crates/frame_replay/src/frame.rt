@@ -31,7 +31,7 @@ fn put_row(out: &mut Vec<u8>, scene: &Scene, y: u16) -> Result<(), AllocError>
 }
 
 /// Appends the pixels of the view, row by row from the top.
-fn put_pixels(out: &mut Vec<u8>, scene: &Scene) -> Result<(), AllocError>
+pub(crate) fn put_pixels(out: &mut Vec<u8>, scene: &Scene) -> Result<(), AllocError>
     ensures { OnOk result (out.new.items ≡ out.old.items ++ flat_map colour_bytes (view_pixels scene.now)) }
 {
     let (_, height) = scene.view();

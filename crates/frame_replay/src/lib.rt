@@ -5,10 +5,14 @@ mod answer;
 mod drawn;
 mod frame;
 mod laws;
+mod load;
 mod program;
 mod replay;
 mod status;
+mod words;
 
+pub use file_generator::generate;
 pub use laws::{drawn_laws, refusal_laws, replay_laws};
-pub use program::{Command, run};
+pub use program::run;
+pub use words::Command;
 pub use wr_io::{StdSink, StdSource};

@@ -1,52 +1,48 @@
 //! The top call: the words, the input, the output, and what a status notes.
 
-ghost use Rattle.std.specs.Prelude.{◌≡◌, ◌≢◌, ◌≤◌, ◌↔◌, ◌∷◌, [], IfSome, None, ℕ, List};
+ghost use Rattle.std.specs.Prelude.{◌≡◌, ◌≢◌, ◌≤◌, ◌↔◌, ◌⊎◌, IfSome, None, ℕ, List};
 ghost use Rattle.wr_io.specs.Streams.{HasFailed};
 ghost use Rattle.record_frame.specs.Reading.{Took};
 ghost use Rattle.record_frame.specs.Writing.{IsPrefix, Wrote};
-ghost use Rattle.frame_replay.specs.Outcome.{note_of};
-ghost use Rattle.frame_replay.specs.Commands.{command_in, command_named, completes, leaves};
+ghost use Rattle.frame_replay.specs.Answer.{replayed};
+ghost use Rattle.frame_replay.specs.Outcome.{Completes, Outcome, note_of};
+ghost use Rattle.frame_replay.specs.Commands.{IfLoad, IsCommand, command_named, completes, leaves};
+ghost use Rattle.frame_replay.specs.Load.{Summarises};
 
+use crate::load::load;
 use crate::replay::Replay;
 use crate::status::answer_status;
+use crate::words::{Command, find_command};
 use record_frame::Transactions;
 use std::alloc::Global;
 use wr_io::{Sink, Source, write_whole};
 
-/// What the words of a run ask for.
-#[derive(Clone, Copy, Debug, PartialEq, Eq)]
-pub enum Command {
-    /// A record for each transaction, a frame's pixels among them.
-    Replay,
-}
-
 /// The exit status of words that name no command.
 const USAGE: u8 = 1;
 
-/// The command of one word.
-fn command_word(word: &str) -> Option<Command>
-    ensures { result ≡ command_in (word.now ∷ []) }
+/// Answers a file of transactions, and gives the exit status: 0, or 2 to 5.
+fn replay<S: Source, K: Sink>(alloc: Global, source: &mut S, sink: &mut K) -> u8
+    ensures range { (result ≢ 1) × (result ≤ 5) }
+    ensures told { IfSome (S.left source.old) (λ input. Took input (S.left source.new) (Outcome replayed result (K.written sink.old) (K.written sink.new))) }
+    ensures source_never_falls { S.faults source.old ≤ S.faults source.new }
+    ensures sink_never_falls { K.faults sink.old ≤ K.faults sink.new }
+    ensures read_failed { result ≡ 3 → HasFailed (S.faults source.old) (S.faults source.new) }
+    ensures write_failed { result ≡ 4 → HasFailed (K.faults sink.old) (K.faults sink.new) }
+    ensures source_count { result ≢ 3 → S.faults source.new ≡ S.faults source.old }
+    ensures sink_count { result ≢ 4 → K.faults sink.new ≡ K.faults sink.old }
+    ensures complete { result ≢ 3 → result ≢ 4 → IfSome (S.left source.old) (Completes replayed result) }
 {
-    match word {
-        "replay" => Some(Command::Replay),
-        _ => None,
-    }
-}
-
-/// The command that the words name.
-fn find_command(words: &[String]) -> Option<Command>
-    ensures { result ≡ command_named words.now }
-{
-    match words {
-        [word] => command_word(word.as_str()),
-        _ => None,
-    }
+    let by = Replay::new(alloc);
+    answer_status(alloc, b"WRF1", Transactions { by }, source, sink)
 }
 
 /// Does what a command is for, and gives the exit status: 0, or 2 to 5.
 fn perform<S: Source, K: Sink>(alloc: Global, command: Command, source: &mut S, sink: &mut K) -> u8
+    requires { IsCommand command }
     ensures range { (result ≢ 1) × (result ≤ 5) }
     ensures told { IfSome (S.left source.old) (λ input. Took input (S.left source.new) (leaves command result (K.written sink.old) (K.written sink.new))) }
+    ensures load { IfLoad command (λ number count. (source.new ≡ source.old) × Summarises number count result (K.written sink.old) (K.written sink.new)) }
+    ensures load_status { IfLoad command (λ number count. (result ≡ 0) ⊎ ((result ≡ 4) ⊎ (result ≡ 5))) }
     ensures source_never_falls { S.faults source.old ≤ S.faults source.new }
     ensures sink_never_falls { K.faults sink.old ≤ K.faults sink.new }
     ensures read_failed { result ≡ 3 → HasFailed (S.faults source.old) (S.faults source.new) }
@@ -56,10 +52,9 @@ fn perform<S: Source, K: Sink>(alloc: Global, command: Command, source: &mut S, 
     ensures complete { result ≢ 3 → result ≢ 4 → IfSome (S.left source.old) (completes command result) }
 {
     match command {
-        Command::Replay => {
-            let by = Replay::new(alloc);
-            answer_status(alloc, b"WRF1", Transactions { by }, source, sink)
-        }
+        Command::Replay => replay(alloc, source, sink),
+        Command::Paint => replay(alloc, source, sink),
+        Command::Load { number, count } => load(alloc, number, count, sink),
     }
 }
 
@@ -107,6 +102,11 @@ pub fn run<S: Source, K: Sink, N: Sink>(
     // What was taken and written, where that is told.
     ensures told { IfSome (command_named words.now) (λ command. IfSome (S.left source.old) (λ input.
         Took input (S.left source.new) (leaves command result (K.written sink.old) (K.written sink.new)))) }
+
+    // `load` reads nothing, and writes its summary whatever the source is. Its status is 0, 4 or 5.
+    ensures load { IfSome (command_named words.now) (λ command. IfLoad command (λ number count.
+        (source.new ≡ source.old) × Summarises number count result (K.written sink.old) (K.written sink.new))) }
+    ensures load_status { IfSome (command_named words.now) (λ command. IfLoad command (λ number count. (result ≡ 0) ⊎ ((result ≡ 4) ⊎ (result ≡ 5)))) }
 
     // The counts of failed calls: status 3 where one of the source failed, and 4 where one of the sink did.
     ensures source_never_falls { S.faults source.old ≤ S.faults source.new }

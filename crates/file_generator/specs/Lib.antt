@@ -1,0 +1,4 @@
+pub mod Rolls
+pub mod Lists
+pub mod Files
+pub mod Laws
