@@ -12,3 +12,6 @@ NAME=reftest
 . tools/built_program.sh
 words=$(python3 tools/reftest.py --program "$program" --out "$work/pictures" examples/reftest.list) || fail "$words"
 echo "reftest: ok, $(echo "$words" | tail -n 1)"
+NAME=loads
+words=$(python3 tools/test_loads.py "$program") || fail "$words"
+echo "loads: ok"

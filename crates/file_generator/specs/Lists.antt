@@ -1,5 +1,5 @@
 -- The display list of a generated file: a page that scrolls behind a bar, with shapes at rolled places.
-use Rattle.std.specs.Prelude.{ℕ, ◌+◌, ◌==◌, pos, List, [], ◌∷◌, ◌++◌, false, Option, Some, None, if◌then◌else◌}
+use Rattle.std.specs.Prelude.{ℕ, ◌+◌, ◌==◌, pos, List, [], ◌∷◌, ◌++◌, true, false, Option, Some, None, if◌then◌else◌}
 use Rattle.wr_geom.specs.Bounds.{Bounds}
 use Rattle.blend_rules.specs.declared.colour.Px.{Px}
 use Rattle.blend_rules.specs.declared.mode.Mode.{Mode}
@@ -112,18 +112,16 @@ context mode = Push (record { node = 1; chain = None; opacity = 255; prop = Some
 abbrev pub items_of : List Token → ℕ → List Token → List Token
 items_of squares mode overlays = ground ∷ (squares ++ (context mode ∷ (overlays ++ (Pop ∷ (bar ∷ [])))))
 
--- the whole list
-unfoldable pub rolled_display_list : ℕ → Rolled ListModel
-rolled_display_list x =
+unfoldable pub rolled_items : ℕ → Rolled (List Token)
+rolled_items x =
     let squares = rolled_list rolled_square 16 x in
     let mode = roll 9 squares.state in
     let overlays = rolled_list rolled_overlay 4 mode.state in
-    record {
-      value = record {
-        nodes = page ∷ [];
-        clips = rounding ∷ [];
-        chains = rounded_chain ∷ [];
-        items = items_of squares.value mode.value overlays.value;
-      };
-      state = overlays.state;
-    }
+    record { value = items_of squares.value mode.value overlays.value; state = overlays.state }
+
+-- the whole list
+abbrev pub rolled_display_list : ℕ → Rolled ListModel
+rolled_display_list x = record {
+  value = record { nodes = page ∷ []; clips = rounding ∷ []; chains = rounded_chain ∷ []; items = (rolled_items x).value };
+  state = (rolled_items x).state;
+}

@@ -16,7 +16,7 @@ unfoldable pub roll : ℕ → ℕ → Rolled ℕ
 roll n x = record { value = (next_state x / 2 ^ 33) % n; state = next_state x }
 
 -- so many of one kind, one after another
-abbrev pub rolled_list : {X : Type 0} → (ℕ → Rolled X) → ℕ → ℕ → Rolled (List X)
+unfoldable pub rolled_list : {X : Type 0} → (ℕ → Rolled X) → ℕ → ℕ → Rolled (List X)
 rolled_list one zero x = record { value = []; state = x }
 rolled_list one (suc n) x =
     record { value = (one x).value ∷ (rolled_list one n (one x).state).value; state = (rolled_list one n (one x).state).state }

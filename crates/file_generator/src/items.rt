@@ -2,11 +2,13 @@
 
 ghost use Rattle.std.specs.Prelude.{◌≡◌, ◌++◌, ◌∷◌, [], ◌≤◌, ◌<◌, ◌^◌, OnOk};
 ghost use Rattle.std.specs.List.{flat_map};
+ghost use Rattle.blend_rules.specs.Colour.{colour_bytes};
 ghost use Rattle.field_forms.specs.Spelling.{rectangle_bytes};
-ghost use Rattle.display_list.specs.Spelling.{chain_bytes, clip_bytes, node_bytes, radii_bytes, spelling, spot_bytes, token_bytes, widths_bytes};
+ghost use Rattle.display_list.specs.Spelling.{chain_bytes, clip_bytes, corner_bytes, node_bytes, radii_bytes, spelling, spot_bytes, token_bytes, widths_bytes};
+ghost use Rattle.display_list.specs.declared.token.Token.TheVariants as a_token;
 ghost use Rattle.file_generator.specs.Rolls.{IsPut, rolled_list};
 ghost use Rattle.file_generator.specs.Lists.{bar, context, corners, even_widths, ground, page, round_corners, rounded_chain, rounding, spot_at, square_at};
-ghost use Rattle.file_generator.specs.Lists.{rolled_border, rolled_display_list, rolled_overlay, rolled_shape, rolled_solid, rolled_square};
+ghost use Rattle.file_generator.specs.Lists.{rolled_border, rolled_display_list, rolled_items, rolled_overlay, rolled_shape, rolled_solid, rolled_square};
 
 use crate::rolls::Die;
 use crate::tags;
@@ -62,7 +64,7 @@ fn put_spot(out: &mut Vec<u8>, node: u16, chain: Option<u16>, at: Corners) -> Re
 /// Appends a number twice.
 #[tactic(auto, unfolding(display_list::specs::Spelling::corner_bytes))]
 fn put_radius(out: &mut Vec<u8>, radius: u16) -> Result<(), AllocError>
-    ensures { OnOk result (out.new.items ≡ out.old.items ++ Rattle.display_list.specs.Spelling.corner_bytes (radius, radius)) }
+    ensures { OnOk result (out.new.items ≡ out.old.items ++ corner_bytes (radius, radius)) }
 {
     put_u16(out, radius)?;
     put_u16(out, radius)
@@ -224,14 +226,7 @@ impl Die {
         let right = self.colour();
         let bottom = self.colour();
         let left = self.colour();
-        put_byte(out, tags::BORDER)?;
-        put_spot(out, 1, None, at)?;
-        put_widths(out, 2)?;
-        put_colour(out, top)?;
-        put_colour(out, right)?;
-        put_colour(out, bottom)?;
-        put_colour(out, left)?;
-        put_radii(out, 4)
+        put_sides(out, at, top, right, bottom, left)
     }
 
     /// Appends a shape of a kind, from 0.
@@ -271,7 +266,7 @@ impl Die {
     fn put_squares(&mut self, out: &mut Vec<u8>) -> Result<(), AllocError>
         ensures { OnOk result (IsPut (flat_map token_bytes) (rolled_list rolled_square 16) out.old.items out.new.items self.old.state self.new.state) }
     {
-        for _ in 0..16 {
+        for _ in 0..16u32 {
             self.put_square(out)?;
         }
         Ok(())
@@ -281,36 +276,84 @@ impl Die {
     fn put_overlays(&mut self, out: &mut Vec<u8>) -> Result<(), AllocError>
         ensures { OnOk result (IsPut (flat_map token_bytes) (rolled_list rolled_overlay 4) out.old.items out.new.items self.old.state self.new.state) }
     {
-        for _ in 0..4 {
+        for _ in 0..4u32 {
             self.put_overlay(out)?;
         }
         Ok(())
     }
 
-    /// Appends a whole list.
-    #[tactic(auto, unfolding(crate::specs::Lists::rolled_display_list))]
-    pub(crate) fn put_display_list(&mut self, out: &mut Vec<u8>) -> Result<(), AllocError>
-        ensures { OnOk result (IsPut spelling rolled_display_list out.old.items out.new.items self.old.state self.new.state) }
+    /// Appends the items of a list.
+    #[tactic(auto, unfolding(crate::specs::Lists::rolled_items))]
+    fn put_items(&mut self, out: &mut Vec<u8>) -> Result<(), AllocError>
+        ensures { OnOk result (IsPut (flat_map token_bytes) rolled_items out.old.items out.new.items self.old.state self.new.state) }
     {
-        put_definitions(out)?;
         put_ground(out)?;
         self.put_squares(out)?;
         let mode = self.roll(9);
         put_context(out, mode)?;
         self.put_overlays(out)?;
-        put_byte(out, tags::POP_CONTEXT)?;
-        put_bar(out)?;
+        put_end(out)
+    }
+
+    /// Appends a whole list.
+    pub(crate) fn put_display_list(&mut self, out: &mut Vec<u8>) -> Result<(), AllocError>
+        ensures { OnOk result (IsPut spelling rolled_display_list out.old.items out.new.items self.old.state self.new.state) }
+    {
+        put_definitions(out)?;
+        self.put_items(out)?;
         put_byte(out, tags::END)
     }
 }
 
+/// Appends the end of the context, and the bar.
+fn put_end(out: &mut Vec<u8>) -> Result<(), AllocError>
+    ensures { OnOk result (out.new.items ≡ out.old.items ++ flat_map token_bytes (a_token.Pop ∷ (bar ∷ []))) }
+{
+    put_byte(out, tags::POP_CONTEXT)?;
+    put_bar(out)
+}
+
 /// Appends the image.
 fn put_image(out: &mut Vec<u8>, at: Corners) -> Result<(), AllocError>
-    ensures { OnOk result (out.new.items ≡ out.old.items ++ token_bytes (Rattle.display_list.specs.declared.token.Token.TheVariants.Image (spot_at 1 None (corners at.x0 at.y0 at.x1 at.y1)) 1 0 0)) }
+    ensures { OnOk result (out.new.items ≡ out.old.items ++ token_bytes (a_token.Image (spot_at 1 None (corners at.x0 at.y0 at.x1 at.y1)) 1 0 0)) }
 {
     put_byte(out, tags::IMAGE)?;
     put_spot(out, 1, None, at)?;
     put_u32(out, 1)?;
     put_u16(out, 0)?;
     put_u16(out, 0)
+}
+
+/// Appends the colours of four sides.
+fn put_colours(
+    out: &mut Vec<u8>,
+    top: Px,
+    right: Px,
+    bottom: Px,
+    left: Px,
+) -> Result<(), AllocError>
+    ensures { OnOk result (out.new.items ≡ out.old.items ++ (colour_bytes top ++ (colour_bytes right ++ (colour_bytes bottom ++ colour_bytes left)))) }
+{
+    put_colour(out, top)?;
+    put_colour(out, right)?;
+    put_colour(out, bottom)?;
+    put_colour(out, left)
+}
+
+/// Appends a border of these colours.
+fn put_sides(
+    out: &mut Vec<u8>,
+    at: Corners,
+    top: Px,
+    right: Px,
+    bottom: Px,
+    left: Px,
+) -> Result<(), AllocError>
+    ensures { OnOk result (out.new.items ≡ out.old.items ++ token_bytes (a_token.Border (spot_at 1 None (corners at.x0 at.y0 at.x1 at.y1)) (even_widths 2) top right bottom left (round_corners 4))) }
+{
+    put_byte(out, tags::BORDER)?;
+    put_spot(out, 1, None, at)?;
+    put_widths(out, 2)?;
+    put_colours(out, top, right, bottom, left)?;
+    put_radii(out, 4)
 }

@@ -56,7 +56,7 @@ impl Die {
     fn put_texels(&mut self, out: &mut Vec<u8>) -> Result<(), AllocError>
         ensures { OnOk result (IsPut (flat_map colour_bytes) (rolled_list rolled_grey 16) out.old.items out.new.items self.old.state self.new.state) }
     {
-        for _ in 0..16 {
+        for _ in 0..16u32 {
             self.put_texel(out)?;
         }
         Ok(())

@@ -1,6 +1,6 @@
 //! Numbers that are rolled one after another.
 
-ghost use Rattle.std.specs.Prelude.{◌≡◌, ◌≤◌, ◌<◌};
+ghost use Rattle.std.specs.Prelude.{◌≡◌, ◌≤◌, ◌<◌, ◌+◌};
 ghost use Rattle.file_generator.specs.Rolls.{IsRolled, next_state, roll, rolled_colour, rolled_grey};
 
 use blend_rules::Px;

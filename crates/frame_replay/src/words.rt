@@ -1,6 +1,7 @@
 //! The words of a run: which command they name.
 
 ghost use Rattle.std.specs.Prelude.{◌≡◌, ◌≤◌, ◌∷◌, [], IfSome};
+ghost use Rattle.std.specs.Str.{all_ascii_digits};
 ghost use Rattle.frame_replay.specs.Commands.{command_in, command_named, load_of, number_in};
 
 use file_generator::MAX_TRANSACTIONS;
@@ -21,7 +22,7 @@ const MAX_DIGITS: usize = 10;
 
 /// Whether each byte is a decimal digit.
 fn are_digits(word: &str) -> bool
-    ensures { result ≡ Rattle.std.specs.Str.all_ascii_digits word.now }
+    ensures { result ≡ all_ascii_digits word.now }
 {
     word.bytes().all(|byte| byte.is_ascii_digit())
 }

@@ -8,6 +8,7 @@ mod causes;
 mod drawn;
 mod files;
 mod frames;
+mod loads;
 mod payloads;
 mod refusals;
 
