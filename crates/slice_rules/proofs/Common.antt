@@ -10,8 +10,7 @@ use Rattle.clip_masks.specs.Clips.{is_rect_clip, same_clip}
 use Rattle.clip_masks.specs.declared.clip.Clip.{Clip}
 use Rattle.clip_masks.proofs.Clips.{rect_clip-true, rect_clip-of, same_clip-true, same_clip-self}
 use Rattle.slice_rules.specs.Homes.{Home, same_home}
-use Rattle.slice_rules.specs.Runs.{Run}
-use Rattle.slice_rules.specs.Shared.{HomedClip, same_homed, common_start, common_clips, may_share, shared_of, shared_clips}
+use Rattle.slice_rules.specs.Shared.{HomedClip, same_homed, common_start, common_clips, may_share, shared_of}
 use Rattle.slice_rules.specs.SharedLaws.{IsClipPrefix, BeginsEach, IsSharable, SharedBeginEach, SharedAreSharable, SharedAreMost, HomelessShareNone}
 use Rattle.slice_rules.proofs.Runs.{home_same, home_self}
 
@@ -178,4 +177,3 @@ shared_most clips slice first homed some each all =
 
 pub homeless_none : {T : Type 0} → HomelessShareNone T
 homeless_none clips slice e = ap (λ (home : Home). shared_of home (common_clips clips slice.members)) e
-

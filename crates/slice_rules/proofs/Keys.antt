@@ -1,5 +1,5 @@
 -- The keys of slices: a slice's number is how many slices of its home are before it, so no two have one key.
-use Rattle.std.proofs.Common.{◌≡◌, ◌≢◌, ℕ, zero, suc, ◌+◌, ◌<◌, ◌≤◌, Bool, true, false, List, [], ◌∷◌, ◌++◌, length, map, cond, refl, sym, ap, ap₂, ◌∙◌, arith}
+use Rattle.std.proofs.Common.{◌≡◌, ◌≢◌, ℕ, suc, ◌+◌, ◌≤◌, Bool, List, [], ◌∷◌, ◌++◌, length, map, cond, refl, ap, ◌∙◌, arith}
 use Rattle.std.specs.Prelude.{All, AllPairs}
 use Rattle.std.specs.List.{count_by, sum_by}
 use Rattle.std.proofs.lemmas.List.{length-map}
@@ -9,7 +9,7 @@ use Rattle.std.proofs.lemmas.List.Kept.{AllPairs-cons}
 use Rattle.wr_geom.specs.declared.keys.SliceKey.{SliceKey}
 use Rattle.slice_rules.specs.Homes.{Home, same_home}
 use Rattle.slice_rules.specs.Runs.{Run, mapped}
-use Rattle.slice_rules.specs.Keys.{key_after, keys_after, slice_keys}
+use Rattle.slice_rules.specs.Keys.{key_after, keys_after}
 use Rattle.slice_rules.specs.KeyLaws.{EachSliceHasAKey, KeysNameHomes, KeysAreDistinct, KeysOfMapped}
 use Rattle.slice_rules.proofs.Runs.{home_self}
 
@@ -67,7 +67,7 @@ differs before h k le e =
     omega (arith, number, same, more, le)
 
 keys_differ : (before hs : List Home) → AllPairs (λ k l. k ≢ l) (keys_after before hs)
-keys_differ before [] i j d lt short = absurd (omega (arith, lt, short))
+keys_differ before [] = λ i j d lt short. absurd (omega (arith, lt, short))
 keys_differ before (h ∷ hs) =
     let next = before ++ h ∷ [] in
     AllPairs-cons (λ k l. k ≢ l) (key_after before h) (keys_after next hs)

@@ -1,11 +1,11 @@
 -- Slices of other members, with the same homes and clips.
-use Rattle.std.proofs.Common.{◌≡◌, ℕ, zero, suc, Bool, true, false, if◌then◌else◌, List, [], ◌∷◌, ◌++◌, map, None, refl, sym, ap, ap₂, ◌∙◌}
+use Rattle.std.proofs.Common.{◌≡◌, ℕ, zero, suc, Bool, true, false, if◌then◌else◌, List, [], ◌∷◌, ◌++◌, map, None, refl, sym, ap, ◌∙◌}
 use Rattle.std.specs.Prelude.{All}
 use Rattle.std.proofs.lemmas.List.{map-append}
 use Rattle.std.proofs.lemmas.List.Elements.{All-head, All-tail}
 use Rattle.clip_masks.specs.Coverage.{cut_by}
 use Rattle.slice_rules.specs.Homes.{Home, same_home}
-use Rattle.slice_rules.specs.Runs.{Run, before_runs, runs, joined, rest_in_one, slices_of, mapped}
+use Rattle.slice_rules.specs.Runs.{Run, before_runs, runs, joined, rest_in_one, mapped}
 use Rattle.slice_rules.specs.RunLaws.{RunsOfMapped, SlicesOfMapped}
 use Rattle.slice_rules.specs.Shared.{HomedClip, common_start, common_clips, shared_of}
 use Rattle.slice_rules.specs.SharedLaws.{SharedOfMapped, ShownOfMapped}

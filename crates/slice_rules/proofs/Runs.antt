@@ -2,10 +2,10 @@
 use Rattle.std.proofs.Common.{◌≡◌, ◌≢◌, ℕ, zero, suc, ◌+◌, ◌≤◌, Bool, true, false, true≢false, ◌==◌, List, [], ◌∷◌, ◌++◌, length, Some, None, refl, sym, ap, ap₂, subst, ◌∙◌, arith}
 use Rattle.std.specs.Prelude.{All}
 use Rattle.std.proofs.lemmas.Bool.{and_parts, and_from, eqb-true, eq-eqb}
-use Rattle.std.proofs.lemmas.List.{append-nil, append_assoc}
+use Rattle.std.proofs.lemmas.List.{append-nil}
 use Rattle.std.proofs.lemmas.List.Elements.{All-nil, All-cons, All-head, All-tail, All-weaker}
 use Rattle.slice_rules.specs.Homes.{Home, same_home}
-use Rattle.slice_rules.specs.Runs.{Run, before_runs, runs, joined, rest_in_one, slices_of}
+use Rattle.slice_rules.specs.Runs.{Run, before_runs, runs, joined, rest_in_one}
 use Rattle.slice_rules.specs.RunLaws.{IsRun, NeighboursDiffer, RunsHaveOneHome, NeighbouringRunsDiffer, RunsHaveAll, SlicesHaveAll, SlicesAreFew, SlicesHaveMembers}
 
 -- ---- homes

@@ -1,5 +1,5 @@
 -- What holds of the clips that a slice shares, as laws on the definitions.
-use Rattle.std.specs.Prelude.{◌≡◌, ◌≢◌, List, [], ◌++◌, map, All, None}
+use Rattle.std.specs.Prelude.{◌≡◌, ◌≢◌, List, [], ◌++◌, All, None}
 use Rattle.wr_geom.specs.Bounds.{Bounds}
 use Rattle.clip_masks.specs.Clips.{IsRectClip}
 use Rattle.slice_rules.specs.Homes.{Home}
