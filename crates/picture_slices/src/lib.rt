@@ -3,8 +3,10 @@
 
 mod entries;
 mod gather;
+mod laws;
 mod run;
 mod share;
 mod slice;
 
-pub use slice::Slice;
+pub use laws::{slice_laws, value_laws};
+pub use slice::{Slice, slices};
