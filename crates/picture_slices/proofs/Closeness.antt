@@ -1,8 +1,8 @@
 -- Close entries can be moved by minus the origin of a slice, and stay good.
-use Rattle.std.proofs.Common.{◌≡◌, ℕ, zero, suc, ◌+◌, ◌<◌, ◌^◌, ℤ, pos, neg_ℤ, ◌+ℤ◌, ◌≤ℤ◌, List, [], ◌∷◌, ◌++◌, drop, refl, arith}
+use Rattle.std.proofs.Common.{ℕ, zero, suc, ◌^◌, ℤ, neg_ℤ, ◌+ℤ◌, List, [], ◌∷◌, drop, arith}
 use Rattle.std.specs.Prelude.{All}
 use Rattle.std.proofs.lemmas.Int.{ints}
-use Rattle.std.proofs.lemmas.List.Elements.{All-nil, All-cons, All-head, All-tail, All-weaker}
+use Rattle.std.proofs.lemmas.List.Elements.{All-tail, All-weaker}
 use Rattle.wr_geom.specs.Bounds.{Bounds, IsCoordinate, IsInRange, shifted}
 use Rattle.wr_geom.specs.declared.point.Point.{Point}
 use Rattle.clip_masks.specs.Clips.{CanShift}

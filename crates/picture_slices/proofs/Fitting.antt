@@ -1,5 +1,5 @@
 -- Slices are good to draw.
-use Rattle.std.proofs.Common.{◌≡◌, ◌≢◌, ℕ, zero, suc, ◌+◌, ◌≤◌, ◌^◌, ℤ, pos, neg_ℤ, ◌≤ℤ◌, true, List, [], ◌∷◌, ◌++◌, length, map, zip, Some, None, refl, sym, ap, subst, ◌∙◌, arith}
+use Rattle.std.proofs.Common.{◌≢◌, ℕ, ◌^◌, pos, List, [], ◌∷◌, ◌++◌, length, map, Some, None, sym, subst, arith}
 use Rattle.std.specs.Prelude.{All, AllPairs}
 use Rattle.std.proofs.lemmas.Int.{ints}
 use Rattle.std.proofs.lemmas.List.{append_assoc, map-append}
@@ -7,7 +7,6 @@ use Rattle.std.proofs.lemmas.List.Elements.{All-nil, All-cons, All-head, All-tai
 use Rattle.wr_geom.specs.Bounds.{Bounds}
 use Rattle.wr_geom.specs.declared.keys.SliceKey.{SliceKey}
 use Rattle.wr_geom.specs.declared.point.Point.{Point}
-use Rattle.clip_masks.specs.declared.clip.Clip.{Clip}
 use Rattle.clip_masks.proofs.Chains.{cut_inside}
 use Rattle.primitives.specs.declared.entry.Entry.{Entry}
 use Rattle.primitives.specs.declared.entry.Entry.TheVariants as entry
@@ -22,10 +21,10 @@ use Rattle.slice_rules.specs.Homes.{Home}
 use Rattle.slice_rules.specs.Runs.{Run}
 use Rattle.slice_rules.specs.Keys.{slice_keys}
 use Rattle.slice_rules.specs.Shared.{HomedClip, shared_clips}
-use Rattle.slice_rules.proofs.Keys.{each_key, keys_distinct}
+use Rattle.slice_rules.proofs.Keys.{keys_distinct}
 use Rattle.slice_rules.proofs.Runs.{slices_few}
 use Rattle.picture_slices.specs.TopClips.{home_of_top, clips_of_top}
-use Rattle.picture_slices.specs.Facts.{HaveGoodEntries, IsSlice, AreSlices}
+use Rattle.picture_slices.specs.Facts.{HaveGoodEntries, IsSlice}
 use Rattle.picture_slices.specs.Fits.{IsWhole, IsWithinPixels, IsSliceOrigin, IsCloseEntry, IsTop, AreTops}
 use Rattle.picture_slices.specs.Fits as whole
 use Rattle.picture_slices.specs.Slices.{first_without, entries_without, origin_of, back_from, slice_of, keyed_slices, top_slices}

@@ -1,7 +1,7 @@
 -- Slices with their keys, one after another, and what holds of each.
-use Rattle.std.proofs.Common.{◌≡◌, ◌≢◌, ℕ, zero, suc, ◌+◌, ◌≤◌, ℤ, true, List, [], ◌∷◌, ◌++◌, length, map, zip, refl, sym, ap, ap₂, subst, ◌∙◌, arith}
-use Rattle.std.specs.Prelude.{All, AllPairs, fold}
-use Rattle.std.proofs.lemmas.List.{append_assoc, append-nil, map-append, length-append, length-map}
+use Rattle.std.proofs.Common.{◌≡◌, ℕ, suc, ℤ, true, List, [], ◌∷◌, ◌++◌, length, map, zip, refl, sym, ap, ap₂, subst, ◌∙◌, arith}
+use Rattle.std.specs.Prelude.{All}
+use Rattle.std.proofs.lemmas.List.{append_assoc, append-nil, map-append}
 use Rattle.std.proofs.lemmas.List.Elements.{All-nil, All-cons, All-head, All-tail}
 use Rattle.wr_geom.specs.Bounds.{Bounds, holds}
 use Rattle.wr_geom.specs.declared.keys.SliceKey.{SliceKey}
@@ -19,7 +19,7 @@ use Rattle.slice_rules.proofs.Runs.{slices_joined}
 use Rattle.picture_slices.specs.TopClips.{home_of_top}
 use Rattle.picture_slices.specs.Facts.{HaveGoodEntries}
 use Rattle.picture_slices.specs.Fits.{IsTop, AreTops}
-use Rattle.picture_slices.specs.Slices.{slice_of, keyed_slices, top_slices, picture_slices}
+use Rattle.picture_slices.specs.Slices.{slice_of, keyed_slices, top_slices}
 use Rattle.picture_slices.specs.Values.{slices_over, runs_over}
 use Rattle.picture_slices.specs.Laws.{SlicesHaveTheKeys, SlicesPaintTheTops}
 use Rattle.picture_slices.specs.declared.slice.Slice.{Slice}
@@ -125,3 +125,15 @@ pub paint_the_tops : SlicesPaintTheTops
 paint_the_tops store view tops x y backdrop stored are good here =
     let rs = top_slices tops in
     over_backdrop store view (slice_keys rs) rs x y backdrop (each_key rs) stored (each_slice IsTop tops are) (each_slice (λ t. All IsEntry t.entries) tops good) here
+
+-- ---- one slice more, as it is made
+
+pub slice_more : (view : Bounds) (rs : List (Run Top)) (r : Run Top) (ss now next : List Slice) (key : SliceKey) (s : Slice) → ss ≡ keyed_slices view (slice_keys rs) rs → now ≡ ss
+    → key ≡ key_after (map (λ (q : Slice). q.key.scroll) now) r.home → s ≡ slice_of view key r → next ≡ ss ++ s ∷ []
+    → next ≡ keyed_slices view (slice_keys (rs ++ r ∷ [])) (rs ++ r ∷ [])
+slice_more view rs r ss now next key s so_far seen named made put =
+    let homes : map (λ (q : Slice). q.key.scroll) now ≡ homes_of_runs rs = ap (map (λ (q : Slice). q.key.scroll)) (seen ∙ so_far) ∙ homes_of_slices view rs in
+    let name : key ≡ key_after (homes_of_runs rs) r.home = named ∙ ap (λ (hs : List Home). key_after hs r.home) homes in
+    put
+    ∙ ap₂ (λ (qs : List Slice) (q : Slice). qs ++ q ∷ []) so_far (made ∙ ap (λ (k : SliceKey). slice_of view k r) name)
+    ∙ sym (keyed-more view rs r)

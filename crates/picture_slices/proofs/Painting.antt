@@ -1,11 +1,10 @@
 -- What slices and their tops paint.
-use Rattle.std.proofs.Common.{◌≡◌, ℕ, zero, suc, ◌+◌, ◌<◌, ◌^◌, ℤ, ◌+ℤ◌, ◌-ℤ◌, neg_ℤ, Bool, true, false, if◌then◌else◌, List, [], ◌∷◌, ◌++◌, length, map, take, drop, zip, refl, sym, ap, ap₂, subst, ◌∙◌, arith}
-use Rattle.std.specs.Prelude.{All, fold}
+use Rattle.std.proofs.Common.{◌≡◌, ℕ, ◌<◌, ◌^◌, ℤ, ◌+ℤ◌, ◌-ℤ◌, neg_ℤ, Bool, true, false, List, [], ◌∷◌, ◌++◌, length, map, take, drop, refl, sym, ap, ap₂, ◌∙◌, arith}
+use Rattle.std.specs.Prelude.{All}
 use Rattle.std.proofs.lemmas.Int.{ints}
-use Rattle.std.proofs.lemmas.List.{append_assoc, take-append-drop}
+use Rattle.std.proofs.lemmas.List.{take-append-drop}
 use Rattle.std.proofs.lemmas.List.Elements.{All-nil, All-cons, All-head, All-tail, All-map}
 use Rattle.wr_geom.specs.Bounds.{Bounds, holds}
-use Rattle.wr_geom.specs.declared.keys.SliceKey.{SliceKey}
 use Rattle.wr_geom.specs.declared.point.Point.{Point}
 use Rattle.blend_rules.specs.declared.colour.Px.{Px}
 use Rattle.blend_rules.specs.declared.mode.Mode.{Mode}
@@ -15,7 +14,7 @@ use Rattle.blend_rules.proofs.Blends.{clear_source_leaves, scaled_by_none, scale
 use Rattle.clip_masks.specs.Clips.{IsRectClip}
 use Rattle.clip_masks.specs.Coverage.{chain_coverage, cut_by}
 use Rattle.clip_masks.specs.declared.clip.Clip.{Clip}
-use Rattle.clip_masks.proofs.Chains.{chain_zero, chain_byte, chain-append, beside_cut, within_cut}
+use Rattle.clip_masks.proofs.Chains.{chain_zero, chain-append, beside_cut, within_cut}
 use Rattle.image_store.specs.StoreModel.{StoreModel, IsStore}
 use Rattle.primitives.specs.declared.entry.Entry.{Entry}
 use Rattle.primitives.specs.declared.entry.Entry.TheVariants as entry
@@ -23,14 +22,12 @@ use Rattle.primitives.specs.declared.entry.Top.{Top}
 use Rattle.primitives.specs.Colours.{primitive_colour, covered_colour}
 use Rattle.primitives.specs.Facts.{IsEntry, IsGroup, IsStack}
 use Rattle.primitives.specs.Moves.{shifted_entries}
-use Rattle.primitives.specs.Stacks.{Group, Stack, empty_stack, group_over_backdrop, after_pop, step, run, value_at, balanced, IsRow}
+use Rattle.primitives.specs.Stacks.{Group, Stack, empty_stack, group_over_backdrop, after_pop, run, IsRow}
 use Rattle.primitives.proofs.Colours.{colour_is_pixel}
 use Rattle.primitives.proofs.Moves.{shifted_runs}
 use Rattle.primitives.proofs.Runs.{runs_in_parts, full_clips_do_nothing, balanced_leaves_groups, rows_are_balanced, run_keeps_pixels}
-use Rattle.slice_rules.specs.Homes.{Home}
 use Rattle.slice_rules.specs.Runs.{Run}
 use Rattle.slice_rules.specs.Shared.{HomedClip, shared_clips}
-use Rattle.slice_rules.specs.SharedLaws.{IsClipPrefix, BeginsEach, IsSharable}
 use Rattle.slice_rules.proofs.Common.{shared_begin_each, shared_sharable}
 use Rattle.picture_slices.specs.TopClips.{first_clips, clips_of_top}
 use Rattle.picture_slices.specs.Facts.{HaveGoodEntries}

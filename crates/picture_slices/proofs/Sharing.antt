@@ -1,10 +1,10 @@
 -- How many clips tops share, as it is counted.
 use Rattle.std.proofs.Common.{◌≡◌, ℕ, zero, suc, ◌+◌, ◌<◌, ◌≤◌, min, Bool, true, false, if◌then◌else◌, List, [], ◌∷◌, ◌++◌, map, length, take, drop, get_or, Some, None, refl, sym, ap, ap₂, subst, ◌∙◌, arith}
-use Rattle.std.specs.Prelude.{All, zip, take_while}
-use Rattle.std.specs.List.{prefix_len, common_prefix_len, fold}
+use Rattle.std.specs.Prelude.{All, zip, take_while, slice_get}
+use Rattle.std.specs.List.{prefix_len, common_prefix_len}
 use Rattle.std.proofs.lemmas.List.{length-take-le, length-append}
-use Rattle.std.proofs.lemmas.List.Sums.{take_while-cons, prefix_len-le-length, common_prefix_len-le}
-use Rattle.std.proofs.lemmas.List.Elements.{All-head, All-tail, All-weaker}
+use Rattle.std.proofs.lemmas.List.Sums.{take_while-cons, prefix_len-le-length}
+use Rattle.std.proofs.lemmas.List.Elements.{All-head, All-tail}
 use Rattle.std.proofs.lemmas.Slice.Zip.{get_or-zip}
 use Rattle.wr_geom.specs.Bounds.{Bounds}
 use Rattle.clip_masks.specs.Coverage.{cut_by}
@@ -12,7 +12,7 @@ use Rattle.clip_masks.specs.declared.clip.Clip.{Clip}
 use Rattle.primitives.specs.declared.entry.Top.{Top}
 use Rattle.slice_rules.specs.Homes.{Home}
 use Rattle.slice_rules.specs.Runs.{Run}
-use Rattle.slice_rules.specs.Shared.{HomedClip, same_homed, common_start, common_clips, may_share, shared_of, shared_clips, shown_rect}
+use Rattle.slice_rules.specs.Shared.{HomedClip, same_homed, common_start, common_clips, shared_of, shared_clips, shown_rect}
 use Rattle.slice_rules.specs.SharedLaws.{IsClipPrefix}
 use Rattle.slice_rules.proofs.Common.{common_from, shared_begin_each}
 use Rattle.picture_slices.specs.TopClips.{first_clips, clips_of_top}
@@ -147,3 +147,58 @@ shared_short first ts are each k d lt = begins_short (get_or ts k d) first (are 
 
 pub shared_are_there : (r : Run Top) → AreTops r.members → All (λ (t : Top). length (shared_clips clips_of_top r) ≤ length (first_clips t.entries)) r.members
 shared_are_there r are = shared_short (shared_clips clips_of_top r) r.members are (shared_begin_each clips_of_top r)
+
+-- ---- in the first top and the others
+
+pub first_is_top : (ts us : List Top) (t : Top) → ts ≡ t ∷ us → AreTops ts → IsTop t
+first_is_top ts us t e are = All-head IsTop t us (subst AreTops e are)
+
+pub others_are_tops : (ts us : List Top) (t : Top) → ts ≡ t ∷ us → AreTops ts → AreTops us
+others_are_tops ts us t e are = All-tail IsTop t us (subst AreTops e are)
+
+pub sharable_small : (p : HomedClip → Bool) (t : Top) (n : ℕ) → IsTop t → n ≡ prefix_len p (clips_of_top t) → n ≤ length (first_clips t.entries)
+sharable_small p t n is e =
+    let count = top_count t is in
+    let le = prefix_len-le-length p (clips_of_top t) in
+    omega (arith, count, le, e)
+
+pub counted_all : (p : HomedClip → Bool) (ts us : List Top) (t : Top) (m n : ℕ) → ts ≡ t ∷ us → m ≡ prefix_len p (clips_of_top t) → n ≡ common_count (clips_of_top t) m us
+    → n ≡ length (take_while p (common_clips clips_of_top ts))
+counted_all p ts us t m n e first all =
+    all
+    ∙ ap (λ (k : ℕ). common_count (clips_of_top t) k us) first
+    ∙ counted p t us
+    ∙ sym (ap (λ (xs : List Top). length (take_while p (common_clips clips_of_top xs))) e)
+
+-- ---- what a run shows
+
+pub shown_none : (view : Bounds) (r : Run Top) → r.members ≡ [] → view ≡ shown_rect clips_of_top view r
+unfolding cut_by
+shown_none view r none = sym (ap (λ (ts : List Top). cut_by view (map (λ (c : HomedClip). c.0) (shared_of r.home (common_clips clips_of_top ts)))) none ∙ nothing r.home)
+  where
+    nothing : (home : Home) → cut_by view (map (λ (c : HomedClip). c.0) (shared_of home [])) ≡ view
+    nothing None = refl
+    nothing (Some h) = refl
+
+-- by the first clips of the first top
+pub shown_by : (view : Bounds) (r : Run Top) (t : Top) (ts : List Top) (n : ℕ) → r.members ≡ t ∷ ts → AreTops r.members → n ≡ length (shared_clips clips_of_top r)
+    → cut_by view (take n (first_clips t.entries)) ≡ shown_rect clips_of_top view r
+shown_by view r t ts n is are count =
+    let first = shared_clips clips_of_top r in
+    let begin : IsClipPrefix first (clips_of_top t) = All-head (λ (u : Top). IsClipPrefix first (clips_of_top u)) t ts (subst (λ (us : List Top). All (λ (u : Top). IsClipPrefix first (clips_of_top u)) us) is (shared_begin_each clips_of_top r)) in
+    ap (cut_by view) (ap (λ (k : ℕ). take k (first_clips t.entries)) count ∙ begins_top t first (first_is_top r.members ts t is are) begin)
+
+pub shared_fit : (r : Run Top) (t : Top) (ts : List Top) (n : ℕ) → r.members ≡ t ∷ ts → AreTops r.members → n ≡ length (shared_clips clips_of_top r) → n ≤ length (first_clips t.entries)
+shared_fit r t ts n is are count =
+    let short = All-head (λ (u : Top). length (shared_clips clips_of_top r) ≤ length (first_clips u.entries)) t ts (subst (λ (us : List Top). All (λ (u : Top). length (shared_clips clips_of_top r) ≤ length (first_clips u.entries)) us) is (shared_are_there r are)) in
+    omega (arith, short, count)
+
+-- ---- the first of some tops
+
+pub members_none : (ts : List Top) → slice_get ts 0 ≡ None → ts ≡ []
+members_none [] e = refl
+members_none (t ∷ ts) e = absurd (cc)
+
+pub members_first : (ts : List Top) (t : Top) → slice_get ts 0 ≡ Some t → ts ≡ t ∷ drop 1 ts
+members_first [] t e = absurd (cc)
+members_first (u ∷ ts) t e = let same : u ≡ t = cc in ap (λ (v : Top). v ∷ ts) same

@@ -1,5 +1,5 @@
 -- What holds of slices, as laws on the definitions.
-use Rattle.std.specs.Prelude.{◌≡◌, ℤ, ◌-ℤ◌, List, map, All, IsTrue, IsFalse}
+use Rattle.std.specs.Prelude.{◌≡◌, ℤ, ◌-ℤ◌, List, map, IsTrue, IsFalse}
 use Rattle.wr_geom.specs.Bounds.{Bounds, holds}
 use Rattle.wr_geom.specs.declared.keys.SliceKey.{SliceKey}
 use Rattle.blend_rules.specs.declared.colour.Px.{Px}

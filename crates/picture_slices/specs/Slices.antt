@@ -1,5 +1,5 @@
 -- The slices of a list of tops.
-use Rattle.std.specs.Prelude.{ℕ, ℤ, pos, neg_ℤ, List, [], ◌∷◌, ◌++◌, map, length, zip, Some, None}
+use Rattle.std.specs.Prelude.{ℕ, pos, neg_ℤ, List, [], ◌∷◌, ◌++◌, map, length, zip, Some}
 use Rattle.wr_geom.specs.Bounds.{Bounds}
 use Rattle.wr_geom.specs.declared.keys.SliceKey.{SliceKey}
 use Rattle.wr_geom.specs.declared.point.Point.{Point}

@@ -45,7 +45,8 @@ fn add_top(entries: &mut Vec<Entry>, top: Top, skip: usize, by: Point) -> Result
 {
     let mut own = top.entries.into_vec().into_iter();
     if let Some(first) = own.next() {
-        entries.push(moved(first.without_clips(skip), by))?;
+        let bare = first.without_clips(skip);
+        entries.push(moved(bare, by))?;
     }
     for entry in own {
         entries.push(moved(entry, by))?;
