@@ -1,0 +1,8 @@
+pub mod TopClips
+pub mod Fits
+pub mod Gathered
+pub mod CommonCount
+pub mod Slices
+pub mod Facts
+pub mod Values
+pub mod Laws

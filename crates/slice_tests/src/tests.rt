@@ -1,0 +1,5 @@
+mod drawn;
+mod made;
+mod pixels;
+mod runs;
+mod shared;
