@@ -1,0 +1,12 @@
+//! Planes of bytes, and what is done to their rows, 16 bytes at a time.
+//!
+//! A picture is kept as four planes: all blue bytes, all green, all red, all alphas. So a row of a plane is a slice,
+//! and each call on rows is exact for every byte and every length. None but `Planes::new` takes memory.
+#![tactic(auto)]
+
+mod planes;
+mod runs;
+
+pub use blend_rules::Plane;
+pub use planes::{Planes, Row, know_planes, part_laws};
+pub use runs::{copy, fill};
