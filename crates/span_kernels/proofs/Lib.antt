@@ -1,2 +1,6 @@
+pub mod Blocks
+pub mod Bytes
 pub mod Parts
+pub mod Sixteen
 pub mod Whole
+pub mod Weaving

@@ -1,3 +1,5 @@
+pub mod Bytes
+pub mod Lanes
 pub mod Lending
 pub mod Parts
 pub mod PlanesModel

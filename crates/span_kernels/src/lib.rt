@@ -4,9 +4,17 @@
 //! and each call on rows is exact for every byte and every length. None but `Planes::new` takes memory.
 #![tactic(auto)]
 
+mod lanes;
+mod over;
 mod planes;
 mod runs;
+mod scale;
+mod step;
+mod weave;
 
 pub use blend_rules::Plane;
+pub use over::{over_row, over_solid};
 pub use planes::{Planes, Row, know_planes, part_laws};
 pub use runs::{copy, fill};
+pub use scale::{scale_by, scale_row};
+pub use weave::weave_row;
