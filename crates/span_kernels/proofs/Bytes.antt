@@ -1,5 +1,5 @@
 -- Arithmetic of one byte.
-use Rattle.std.proofs.Common.{ℕ, ◌≡◌, ◌≤◌, ◌+◌, ◌-◌, ◌*◌, ◌/◌, ◌%◌, Fits, w8, arith, ap}
+use Rattle.std.proofs.Common.{ℕ, ◌≡◌, ◌≤◌, ◌+◌, ◌-◌, ◌*◌, ◌/◌, ◌%◌, Fits, w8, w16, arith, ap, ◌<◌, nat_lt, Bool, true, false, cond, min, max, refl, rules}
 use Rattle.std.proofs.Math.Nat.{mul-le-mul_left, mul-le-mul_right, mul-add}
 use Rattle.blend_rules.specs.Colour.{product}
 use Rattle.span_kernels.specs.Bytes.{over_byte}
@@ -41,3 +41,40 @@ over_wrapped sa s d h hs hd ha =
     let most = over_fits sa s d h hd ha in
     let sub : (d + (256 - product d sa)) % 256 ≡ d - product d sa = omega arith in
     omega arith
+
+pub excess_wrapped : (x y : ℕ) → y ≤ x → Fits w8 x → (x + (256 - y)) % 256 ≡ x - y
+excess_wrapped x y le hx = omega arith
+
+pub sum_wide : (x y : ℕ) → Fits w8 x → Fits w8 y → (x + y) % 65536 ≡ x + y
+sum_wide x y hx hy = omega arith
+
+lt_from : (x y : ℕ) → nat_lt x y ≡ true → x < y
+lt_from x y is = search rules
+
+le_from : (x y : ℕ) → nat_lt x y ≡ false → y ≤ x
+le_from x y is = search rules
+
+-- the tests that choose the lesser and the greater
+lesser_by : (x y : ℕ) (t : Bool) → nat_lt x y ≡ t → cond t x y ≡ min x y
+lesser_by x y true is = let h = lt_from x y is in omega arith
+lesser_by x y false is = let h = le_from x y is in omega arith
+
+pub lesser_is : (x y : ℕ) → cond (nat_lt x y) x y ≡ min x y
+lesser_is x y = lesser_by x y (nat_lt x y) refl
+
+greater_by : (x y : ℕ) (t : Bool) → nat_lt x y ≡ t → cond t y x ≡ max x y
+greater_by x y true is = let h = lt_from x y is in omega arith
+greater_by x y false is = let h = le_from x y is in omega arith
+
+pub greater_is : (x y : ℕ) → cond (nat_lt x y) y x ≡ max x y
+greater_is x y = greater_by x y (nat_lt x y) refl
+
+-- a difference of sixteen bits that ends at 0
+pub rest_wide : (x y : ℕ) → Fits w16 x → Fits w16 y → (cond (nat_lt x y) y x + (65536 - y)) % 65536 ≡ x - y
+rest_wide x y hx hy = let g = greater_is x y in omega arith
+
+pub limited_fits : (limit x : ℕ) → Fits w8 limit → Fits w8 (cond (nat_lt x limit) x limit)
+limited_fits limit x h = let l = lesser_is x limit in omega arith
+
+pub limited_is : (limit x : ℕ) → cond (nat_lt x limit) x limit ≡ min limit x
+limited_is limit x = let l = lesser_is x limit in omega arith

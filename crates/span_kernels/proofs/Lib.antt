@@ -1,4 +1,4 @@
-pub mod Blocks
+pub mod Stepping
 pub mod Bytes
 pub mod Parts
 pub mod Sixteen

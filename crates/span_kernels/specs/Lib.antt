@@ -3,3 +3,4 @@ pub mod Lanes
 pub mod Lending
 pub mod Parts
 pub mod PlanesModel
+pub mod Stepped

@@ -2,7 +2,9 @@
 
 ghost use Rattle.std.specs.Prelude.{◌≡◌, ◌≤◌, ◌<◌, ◌+◌, ◌*◌, ◌/◌, ℕ, length, slice_index, EachIndex};
 ghost use Rattle.span_kernels.specs.Lanes.{AreLanes};
+ghost use Rattle.span_kernels.specs.Stepped.{IsStepped};
 
+use crate::lanes::lanes_at;
 use std::simd::prelude::*;
 
 /// What a kernel makes of a byte at an index of a row, and of the sixteen from one on.
@@ -22,36 +24,56 @@ pub(crate) trait Step {
         ensures { AreLanes result (λ k. gives self.now (at + k) (slice_index d k)) };
 }
 
-/// Takes a step at each index of a row.
+/// Takes a step at each index of a row: at two blocks of sixteen a time, at a last block, and at the rest.
 #[inline(always)]
 pub(crate) fn step_row<K: Step>(d: &mut [u8], step: &K)
     requires { EachIndex d.old (λ k. K.fits step.now k (slice_index d.old k)) }
     ensures { EachIndex d.new (λ k. slice_index d.new k ≡ K.gives step.now k (slice_index d.old k)) }
 {
-    step_blocks(d, step);
+    step_pairs(d, step);
+    step_odd(d, step);
     step_rest(d, step);
 }
 
-/// Takes a step at each index of the whole blocks of sixteen.
+/// Takes a step at sixteen indices.
 #[inline(always)]
-fn step_blocks<K: Step>(d: &mut [u8], step: &K)
-    requires { EachIndex d.old (λ k. K.fits step.now k (slice_index d.old k)) }
-    ensures blocks { (k : ℕ) → k < 16 * (length d.old / 16) → slice_index d.new k ≡ K.gives step.now k (slice_index d.old k) }
-    ensures rest { (k : ℕ) → 16 * (length d.old / 16) ≤ k → slice_index d.new k ≡ slice_index d.old k }
+fn step_block<K: Step>(d: &mut [u8], step: &K, at: usize)
+    requires room { at + 16 ≤ length d.old }
+    requires fits { (k : ℕ) → at ≤ k → k < at + 16 → K.fits step.now k (slice_index d.old k) }
+    ensures { IsStepped (K.gives step.now) at (at + 16) d.old d.new }
 {
-    for block in 0..d.len() / 16 {
-        let at = 16 * block;
-        let old = u8x16::from_slice(&d[at..]);
-        step.lanes(at, old).copy_to_slice(&mut d[at..]);
+    let old = lanes_at(d, at);
+    step.lanes(at, old).copy_to_slice(&mut d[at..]);
+}
+
+/// Takes a step at each index of the whole pairs of blocks.
+#[inline(always)]
+fn step_pairs<K: Step>(d: &mut [u8], step: &K)
+    requires { EachIndex d.old (λ k. K.fits step.now k (slice_index d.old k)) }
+    ensures { IsStepped (K.gives step.now) 0 (32 * (length d.old / 32)) d.old d.new }
+{
+    for pair in 0..d.len() / 32 {
+        step_block(d, step, 32 * pair);
+        step_block(d, step, 32 * pair + 16);
     }
 }
 
-/// Takes a step at each index after the whole blocks of sixteen.
+/// Takes a step at each index of a block after the whole pairs, where there is one.
+#[inline(always)]
+fn step_odd<K: Step>(d: &mut [u8], step: &K)
+    requires { (k : ℕ) → 32 * (length d.old / 32) ≤ k → k < length d.old → K.fits step.now k (slice_index d.old k) }
+    ensures { IsStepped (K.gives step.now) (32 * (length d.old / 32)) (16 * (length d.old / 16)) d.old d.new }
+{
+    if d.len() % 32 >= 16 {
+        step_block(d, step, 32 * (d.len() / 32));
+    }
+}
+
+/// Takes a step at each index after the whole blocks.
 #[inline(always)]
 fn step_rest<K: Step>(d: &mut [u8], step: &K)
     requires { (k : ℕ) → 16 * (length d.old / 16) ≤ k → k < length d.old → K.fits step.now k (slice_index d.old k) }
-    ensures blocks { (k : ℕ) → k < 16 * (length d.old / 16) → slice_index d.new k ≡ slice_index d.old k }
-    ensures rest { (k : ℕ) → 16 * (length d.old / 16) ≤ k → k < length d.old → slice_index d.new k ≡ K.gives step.now k (slice_index d.old k) }
+    ensures { IsStepped (K.gives step.now) (16 * (length d.old / 16)) (length d.old) d.old d.new }
 {
     for i in 16 * (d.len() / 16)..d.len() {
         d[i] = step.byte(i, d[i]);
