@@ -1,7 +1,8 @@
 -- Arithmetic of one byte.
-use Rattle.std.proofs.Common.{ℕ, ◌≡◌, ◌≤◌, ◌+◌, ◌-◌, ◌*◌, ◌/◌, ◌%◌, Fits, w8, w16, arith, ap, ◌<◌, nat_lt, Bool, true, false, cond, min, max, refl, rules}
-use Rattle.std.proofs.Math.Nat.{mul-le-mul_left, mul-le-mul_right, mul-add}
-use Rattle.blend_rules.specs.Colour.{product}
+use Rattle.std.proofs.Common.{ℕ, ◌≡◌, ◌≤◌, ◌+◌, ◌-◌, ◌*◌, ◌/◌, ◌%◌, Fits, w8, w16, arith, ap, ◌<◌, nat_lt, Bool, true, false, cond, min, max, refl, rules, nat_le}
+use Rattle.std.proofs.Math.Nat.{mul-le-mul_left, mul-le-mul_right, mul-add, add-mul}
+use Rattle.blend_rules.specs.Colour.{product, alpha_sum, blended_channel}
+use Rattle.blend_rules.specs.declared.mode.Mode.TheVariants.{Normal}
 use Rattle.span_kernels.specs.Bytes.{over_byte}
 
 pub product_le : (x y : ℕ) → Fits w8 y → product x y ≤ x
@@ -78,3 +79,37 @@ limited_fits limit x h = let l = lesser_is x limit in omega arith
 
 pub limited_is : (limit x : ℕ) → cond (nat_lt x limit) x limit ≡ min limit x
 limited_is limit x = let l = lesser_is x limit in omega arith
+
+-- ---- modes
+
+pub alpha_is : (sa da : ℕ) → Fits w8 sa → over_byte sa sa da ≡ alpha_sum sa da
+alpha_is sa da h = let low = product_le da sa h in omega arith
+
+-- what an alpha leaves does not fall as the byte rises
+product_rises : (d da sa : ℕ) → d ≤ da → Fits w8 sa → product da sa ≤ product d sa + (da - d)
+unfolding product
+product_rises d da sa le h =
+    let e : ℕ = da - d in
+    let whole : (d + e) * sa ≡ da * sa = ap (λ n. n * sa) (omega arith) in
+    let parts : (d + e) * sa ≡ d * sa + e * sa = add-mul d e sa in
+    let m : e * sa ≤ e * 255 = mul-le-mul_left e (omega arith) in
+    omega arith
+
+pub normal_is : (sa da s d : ℕ) → s ≤ sa → d ≤ da → Fits w8 sa → over_byte sa s d ≡ blended_channel Normal sa da s d
+normal_is sa da s d hs hd h =
+    let r = product_rises d da sa hd h in let l = product_le d sa h in let m = product_le da sa h in omega arith
+
+-- the test that a byte is at most half of another
+half_by : (x xa : ℕ) (t u : Bool) → x ≤ xa → nat_le x (xa - x) ≡ t → nat_le (2 * x) xa ≡ u → t ≡ u
+half_by x xa true true le a b = refl
+half_by x xa false false le a b = refl
+half_by x xa true false le a b = absurd (search rules)
+half_by x xa false true le a b = absurd (search rules)
+
+pub half_is : (x xa : ℕ) → x ≤ xa → nat_le x (xa - x) ≡ nat_le (2 * x) xa
+half_is x xa le = half_by x xa (nat_le x (xa - x)) (nat_le (2 * x) xa) le refl refl
+
+-- the sums of dark and of light, chosen term by term
+pub contrast_is : (t : Bool) (s d both alphas first second rest : ℕ) → s + d + (cond t both alphas + cond t both 0) - (first + second + (cond t 0 rest + cond t 0 rest)) ≡ cond t (s + d + 2 * both - (first + second)) (s + d + alphas - (first + second + 2 * rest))
+contrast_is true s d both alphas first second rest = omega arith
+contrast_is false s d both alphas first second rest = omega arith

@@ -3,7 +3,7 @@
 ghost use Rattle.std.specs.Prelude.{◌≡◌, ◌≤◌, ◌<◌, ◌+◌, ◌-◌, ℕ, length, slice_index, min, max, nat_le, if◌then◌else◌};
 ghost use Rattle.blend_rules.specs.Colour.{product};
 ghost use Rattle.span_kernels.specs.Bytes.{over_byte};
-ghost use Rattle.span_kernels.specs.Lanes.{AreLanes};
+ghost use Rattle.span_kernels.specs.Lanes.{AreLanes, IsBelow};
 
 use std::simd::prelude::*;
 
@@ -29,7 +29,7 @@ pub(crate) fn product_lanes(x: u8x16, y: u8x16) -> u8x16
 /// Each byte of a source over that of a backdrop.
 #[inline(always)]
 pub(crate) fn over_lanes(sa: u8x16, s: u8x16, d: u8x16) -> u8x16
-    requires { (k : ℕ) → k < 16 → slice_index s k ≤ slice_index sa k }
+    requires { IsBelow s sa }
     ensures { AreLanes result (λ k. over_byte (slice_index sa k) (slice_index s k) (slice_index d k)) }
 {
     s + (d - product_lanes(d, sa))
@@ -38,7 +38,7 @@ pub(crate) fn over_lanes(sa: u8x16, s: u8x16, d: u8x16) -> u8x16
 /// By how much each byte of `x` exceeds that of `y`.
 #[inline(always)]
 pub(crate) fn excess_lanes(x: u8x16, y: u8x16) -> u8x16
-    requires { (k : ℕ) → k < 16 → slice_index y k ≤ slice_index x k }
+    requires { IsBelow y x }
     ensures { AreLanes result (λ k. slice_index x k - slice_index y k) }
 {
     x - y

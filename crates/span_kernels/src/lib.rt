@@ -4,7 +4,9 @@
 //! and each call on rows is exact for every byte and every length. None but `Planes::new` takes memory.
 #![tactic(auto)]
 
+mod blend;
 mod lanes;
+mod modes;
 mod over;
 mod planes;
 mod runs;
@@ -12,6 +14,7 @@ mod scale;
 mod step;
 mod weave;
 
+pub use blend::blend_row;
 pub use blend_rules::Plane;
 pub use over::{over_row, over_solid};
 pub use planes::{Planes, Row, know_planes, part_laws};
