@@ -4,7 +4,9 @@
 ghost use Rattle.std.specs.Prelude.{◌≡◌, ◌≤◌, ◌*◌, length, slice_index, EachIndex, replicate};
 
 use blend_rules::Mode;
-use span_kernels::{copy, fill, over_row, over_solid, scale_by, scale_row, weave_row};
+use span_kernels::{
+    blend_row, copy, fill, know_row, over_row, over_solid, scale_by, scale_row, weave_row,
+};
 use std::time::{Duration, Instant};
 use std::{env, io};
 
@@ -17,7 +19,9 @@ const LENGTH: usize = 1024;
 /// Prints what one row took.
 fn print_time(rt: &HostRuntime, name: &str, spent: Duration, row: &[u8]) -> io::Result<()> {
     let tenths = spent.as_nanos() / 2_000;
-    let sum: u64 = row.iter().fold(0, |sum: u64, byte| sum.wrapping_add(*byte as u64));
+    let sum: u64 = row
+        .iter()
+        .fold(0, |sum: u64, byte| sum.wrapping_add(*byte as u64));
     println!(rt; "{name} {tenths} ({sum})")?;
     Ok(())
 }
@@ -91,6 +95,60 @@ fn time_weave(rt: &HostRuntime, b: &[u8], a: &[u8], out: &mut [u8]) -> io::Resul
     print_time(rt, "weave_row", start.elapsed(rt)?, out)
 }
 
+/// Blends a row over an opaque one.
+#[inline(always)]
+fn blend_over(m: Mode, d: &mut [u8], s: &[u8], sa: &[u8], da: &[u8])
+    requires source { length s.now ≡ length d.old }
+    requires alphas { length sa.now ≡ length d.old }
+    requires backdrop_alphas { length da.now ≡ length d.old }
+    requires premultiplied { EachIndex s.now (λ k. slice_index s.now k ≤ slice_index sa.now k) }
+    requires opaque { EachIndex da.now (λ k. slice_index da.now k ≡ 255) }
+{
+    know_row(d);
+    blend_row(m, d, s, sa, da);
+}
+
+fn time_mode(
+    rt: &HostRuntime,
+    name: &str,
+    m: Mode,
+    d: &mut [u8],
+    s: &[u8],
+    sa: &[u8],
+    da: &[u8],
+) -> io::Result<()>
+    requires source { length s.now ≡ length d.old }
+    requires alphas { length sa.now ≡ length d.old }
+    requires backdrop_alphas { length da.now ≡ length d.old }
+    requires premultiplied { EachIndex s.now (λ k. slice_index s.now k ≤ slice_index sa.now k) }
+    requires opaque { EachIndex da.now (λ k. slice_index da.now k ≡ 255) }
+{
+    let start = Instant::now(rt)?;
+    for _ in 0..ROUNDS {
+        blend_over(m, d, s, sa, da);
+    }
+    print_time(rt, name, start.elapsed(rt)?, d)
+}
+
+/// Times each mode, over an opaque backdrop.
+fn time_modes(rt: &HostRuntime, d: &mut [u8], s: &[u8], sa: &[u8], da: &[u8]) -> io::Result<()>
+    requires source { length s.now ≡ length d.old }
+    requires alphas { length sa.now ≡ length d.old }
+    requires backdrop_alphas { length da.now ≡ length d.old }
+    requires premultiplied { EachIndex s.now (λ k. slice_index s.now k ≤ slice_index sa.now k) }
+    requires opaque { EachIndex da.now (λ k. slice_index da.now k ≡ 255) }
+{
+    time_mode(rt, "normal", Mode::Normal, d, s, sa, da)?;
+    time_mode(rt, "multiply", Mode::Multiply, d, s, sa, da)?;
+    time_mode(rt, "screen", Mode::Screen, d, s, sa, da)?;
+    time_mode(rt, "overlay", Mode::Overlay, d, s, sa, da)?;
+    time_mode(rt, "darken", Mode::Darken, d, s, sa, da)?;
+    time_mode(rt, "lighten", Mode::Lighten, d, s, sa, da)?;
+    time_mode(rt, "hard_light", Mode::HardLight, d, s, sa, da)?;
+    time_mode(rt, "difference", Mode::Difference, d, s, sa, da)?;
+    time_mode(rt, "exclusion", Mode::Exclusion, d, s, sa, da)
+}
+
 /// Times each kernel.
 fn time_all(rt: &HostRuntime, length: usize) -> io::Result<()>
     requires { length ≤ 4096 }
@@ -98,6 +156,7 @@ fn time_all(rt: &HostRuntime, length: usize) -> io::Result<()>
     let mut d = vec![in rt.alloc(); 7; length]?;
     let mut s = vec![in rt.alloc(); 100; length]?;
     let sa = vec![in rt.alloc(); 128; length]?;
+    let da = vec![in rt.alloc(); 255; length]?;
     let mut out = vec![in rt.alloc(); 0; 4 * length]?;
     time_fill(rt, &mut d)?;
     time_over_solid(rt, &mut d)?;
@@ -105,6 +164,7 @@ fn time_all(rt: &HostRuntime, length: usize) -> io::Result<()>
     time_scale_by(rt, &mut d)?;
     time_scale_row(rt, &mut d, &sa)?;
     time_weave(rt, &s, &sa, &mut out)?;
+    time_modes(rt, &mut d, &s, &sa, &da)?;
     time_copy(rt, &mut d, &mut s)
 }
 

@@ -1,3 +1,4 @@
+pub mod ColourLaws
 pub mod Stepping
 pub mod Bytes
 pub mod Parts
