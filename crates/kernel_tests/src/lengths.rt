@@ -214,9 +214,23 @@ fn a_covered_byte_may_stay(rt: HostRuntime) -> Result<(), Fail> {
     Ok(())
 }
 
+/// Lays a row of zeros under alphas of 128 over a row of ones.
+fn lay_nothing(d: &mut [u8], s: &mut [u8], sa: &mut [u8])
+    requires source { length s.old ≡ length d.old }
+    requires alphas { length sa.old ≡ length d.old }
+{
+    fill(d, 1);
+    fill(s, 0);
+    fill(sa, 128);
+    put_below(s, sa);
+    over_row(d, s, sa);
+}
+
 #[test]
-fn nothing_over_one_leaves_it(rt: HostRuntime) {
-    let mut d = [1; 37];
-    over_row(&mut d, &[0; 37], &[128; 37]);
-    assert!(rt; d == [1; 37]);
+fn nothing_over_one_leaves_it(rt: HostRuntime) -> Result<(), Fail> {
+    let mut d = zeros(rt.alloc(), 37)?;
+    let (mut s, mut sa) = (zeros(rt.alloc(), 37)?, zeros(rt.alloc(), 37)?);
+    lay_nothing(&mut d, &mut s, &mut sa);
+    assert!(rt; d.iter().all(|byte| *byte == 1));
+    Ok(())
 }
