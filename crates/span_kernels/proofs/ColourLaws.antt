@@ -1,5 +1,5 @@
 -- The kernels' bytes are the colour rules', plane by plane.
-use Rattle.std.proofs.Common.{◌≡◌, ◌∷◌, [], List, refl, ap, Fits, w8, sym}
+use Rattle.std.proofs.Common.{◌∷◌, [], refl, ap, sym}
 use Rattle.blend_rules.specs.declared.plane.Plane.TheVariants.{B, G, R, A}
 use Rattle.blend_rules.specs.Colour.{scaled, blended, source_over, colour_bytes}
 use Rattle.span_kernels.specs.Laws.{OverByPlane, ScaledByPlane, BlendedByPlane, BlendedAlpha, WovenPixels}

@@ -1,6 +1,6 @@
 -- Operations on sixteen lanes, by index.
-use Rattle.std.proofs.Common.{ℕ, ◌≡◌, ◌<◌, List, length, replicate, map, refl, ap, arith, get_or, ◌∙◌, sym, subst, Fits, w8, w16, ◌+◌, ◌-◌, ◌≤◌, ◌^◌, take, drop, Bool, false, cond}
-use Rattle.std.proofs.lemmas.List.{length-map, get_or-map, take_all, length-drop}
+use Rattle.std.proofs.Common.{ℕ, ◌≡◌, ◌<◌, List, length, replicate, map, refl, ap, get_or, ◌∙◌, sym, subst, Fits, w8, w16, ◌+◌, ◌-◌, ◌≤◌, ◌^◌, Bool, false, cond}
+use Rattle.std.proofs.lemmas.List.{length-map, get_or-map}
 use Rattle.std.proofs.lemmas.Simd.{get_or-zip2, length-zip2, length-replicate, get_or-replicate, Each1-from_get_or, Each1-get_or, get_or-chunk, length-chunk, tops_compared, length-sel_l, get_or-sel_l}
 use lib.Lanes.{Each1, zip2, chunk, sel_l, top}
 use mir.Syntax.{Width}

@@ -1,6 +1,5 @@
 -- Rows that are changed part by part.
-use Rattle.std.proofs.Common.{ℕ, ◌≡◌, ◌≤◌, ◌<◌, ◌+◌, ◌-◌, List, length, arith, get_or, ◌∙◌, inl, inr, ap, refl}
-use Rattle.std.proofs.lemmas.Bool.{cases_lt}
+use Rattle.std.proofs.Common.{ℕ, ◌≡◌, ◌≤◌, ◌+◌, ◌-◌, List, length, arith, get_or, ◌∙◌}
 use Rattle.std.proofs.lemmas.Simd.{get_or-put_chunk_at, get_or-put_chunk_below, get_or-put_chunk_above}
 use lib.Lanes.{put_chunk}
 use Rattle.span_kernels.specs.Lanes.{AreLanes}

@@ -1,4 +1,4 @@
-use Rattle.std.proofs.Common.{get_or, ◌∙◌, arith, rules}
+use Rattle.std.proofs.Common.{get_or, ◌∙◌, rules}
 use Rattle.span_kernels.proofs.Bytes.{normal_is}
 use Rattle.span_kernels.proofs.blend.normal_row.Goals as goal
 

@@ -1,6 +1,5 @@
-use Rattle.std.proofs.Common.{ℕ, ◌≡◌, ◌≤◌, ◌<◌, ◌+◌, ◌-◌, min, max, nat_le, nat_lt, Fits, w8, w16, refl, arith}
-use Rattle.span_kernels.proofs.Bytes.{excess_wrapped, sum_wide, lesser_is, greater_is}
-use Rattle.span_kernels.proofs.Sixteen.{lanes_of, lanes_by, lanes_splat, lanes_map, lanes_zip, lanes_choose, each_lane, byte_lane}
+use Rattle.span_kernels.proofs.Bytes.{excess_wrapped}
+use Rattle.span_kernels.proofs.Sixteen.{lanes_of, lanes_by, lanes_zip, byte_lane}
 use Rattle.span_kernels.proofs.lanes.excess_lanes.Goals as goal
 
 pub returns : goal.returns

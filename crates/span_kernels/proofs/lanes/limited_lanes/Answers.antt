@@ -1,6 +1,6 @@
-use Rattle.std.proofs.Common.{ℕ, ◌≡◌, ◌≤◌, ◌<◌, ◌+◌, ◌-◌, min, max, nat_le, nat_lt, Fits, get_or, w8, w16, refl, arith}
+use Rattle.std.proofs.Common.{nat_lt, get_or, w16}
 use Rattle.span_kernels.proofs.Bytes.{limited_fits, limited_is}
-use Rattle.span_kernels.proofs.Sixteen.{lanes_of, lanes_by, lanes_splat, lanes_map, lanes_zip, lanes_choose, each_lane, byte_lane}
+use Rattle.span_kernels.proofs.Sixteen.{lanes_of, lanes_by, lanes_map, lanes_choose, each_lane, byte_lane}
 use Rattle.span_kernels.proofs.lanes.limited_lanes.Goals as goal
 
 pub overflow_cast-result-2 : goal.overflow_cast-result-2

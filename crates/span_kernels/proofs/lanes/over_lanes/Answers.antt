@@ -1,4 +1,3 @@
-use Rattle.std.proofs.Common.{◌∙◌, sym, ap}
 use Rattle.span_kernels.proofs.Bytes.{over_wrapped}
 use Rattle.span_kernels.proofs.Sixteen.{lanes_of, lanes_by, lanes_zip, byte_lane}
 use Rattle.span_kernels.proofs.lanes.over_lanes.Goals as goal

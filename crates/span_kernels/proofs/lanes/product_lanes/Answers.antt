@@ -1,4 +1,3 @@
-use Rattle.std.proofs.lemmas.Simd.{Each1-get_or}
 use Rattle.span_kernels.proofs.Bytes.{product_wide, product_wide_fits}
 use Rattle.span_kernels.proofs.Sixteen.{lanes_of, lanes_by, lanes_splat, lanes_map, lanes_zip, each_lane, byte_lane}
 use Rattle.span_kernels.proofs.lanes.product_lanes.Goals as goal

@@ -1,6 +1,6 @@
-use Rattle.std.proofs.Common.{ℕ, ◌≡◌, ◌≤◌, ◌<◌, ◌+◌, ◌-◌, min, max, nat_le, nat_lt, Fits, w8, w16, refl, arith}
+use Rattle.std.proofs.Common.{nat_lt, w16}
 use Rattle.span_kernels.proofs.Bytes.{rest_wide}
-use Rattle.span_kernels.proofs.Sixteen.{lanes_of, lanes_by, lanes_splat, lanes_map, lanes_zip, lanes_choose, each_lane, byte_lane, wide_lane}
+use Rattle.span_kernels.proofs.Sixteen.{lanes_of, lanes_by, lanes_zip, lanes_choose, wide_lane}
 use Rattle.span_kernels.proofs.lanes.rest_lanes.Goals as goal
 
 pub returns : goal.returns

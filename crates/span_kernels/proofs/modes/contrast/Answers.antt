@@ -1,5 +1,5 @@
-use Rattle.std.proofs.Common.{get_or, nat_le, ◌*◌, ◌-◌, ◌∙◌, ap, min}
-use Rattle.blend_rules.specs.Colour.{product, alpha_sum}
+use Rattle.std.proofs.Common.{get_or, nat_le, ◌*◌, ◌-◌}
+use Rattle.blend_rules.specs.Colour.{product}
 use Rattle.span_kernels.proofs.Bytes.{contrast_is, half_is}
 use Rattle.span_kernels.proofs.Sixteen.{lanes_by}
 use Rattle.span_kernels.proofs.modes.contrast.Goals as goal
