@@ -3,3 +3,5 @@ pub mod Replays
 pub mod Marks
 pub mod Pixels
 pub mod Refusals
+pub mod Counting
+pub mod Sizes

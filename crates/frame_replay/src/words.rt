@@ -24,7 +24,12 @@ const MAX_DIGITS: usize = 10;
 fn are_digits(word: &str) -> bool
     ensures { result ≡ all_ascii_digits word.now }
 {
-    word.bytes().all(|byte| byte.is_ascii_digit())
+    for byte in word.as_bytes() {
+        if !byte.is_ascii_digit() {
+            return false;
+        }
+    }
+    true
 }
 
 /// The number that 1 to 10 decimal digits write, where zeros may lead.

@@ -1,0 +1,33 @@
+use Rattle.std.proofs.Common.{◌≡◌, ℕ, List, ◌+◌, ◌-◌, ap, ◌∙◌, arith}
+use Rattle.file_generator.specs.Files.{Generating, payloads}
+use Rattle.frame_replay.specs.Answer.{accepted, next_state, start_state}
+use Rattle.frame_replay.specs.Load.{answers_from, counts_of, with_answer}
+use Rattle.frame_replay.specs.declared.load.Counts.{Counts}
+use Rattle.frame_replay.proofs.Counting.{counted_more, counted_none, file_answers, frames_grow, refused_grow}
+use Rattle.frame_replay.proofs.load.counted.Goals as goal
+
+pub loop-preserved : goal.loop-preserved
+loop-preserved c =
+    let before = (c.loop.loading.scene, c.loop.loading.gens) in
+    let after = (c.answer.new.self.scene, c.answer.new.self.gens) in
+    let payload = c.put_next.new.payload.items in
+    let state : after ≡ next_state payload before = c.in_ok-answer.ensures.state ∙ ap (λ (p : List ℕ). next_state p before) c.as_slice.ensures.value in
+    let counts : c.answer.new.self.counts ≡ with_answer (accepted payload before) c.loop.loading.counts =
+    c.in_ok-answer.ensures.counts ∙ ap (λ (p : List ℕ). with_answer (accepted p before) c.loop.loading.counts) c.as_slice.ensures.value in
+    record {
+      all =
+          counted_more (counts_of (answers_from (payloads c.args.number c.args.count) start_state)) c.loop.loading.counts c.answer.new.self.counts c.loop.generator c.put_next.new.self
+          payload before after (c.args.count - c.loop.counter) (c.args.count - (c.loop.counter + 1)) (omega arith)
+          c.in_ok-put_next.ensures.payload c.in_ok-put_next.ensures.after state counts c.loop.invariant.all;
+      next = ap (λ (g : Generating). g.next) c.in_ok-put_next.ensures.after ∙ ap (λ (n : ℕ). n + 1) c.loop.invariant.next;
+      last = omega arith;
+      frames = omega (arith, ap (λ (x : Counts). x.frames) counts, frames_grow (accepted payload before) c.loop.loading.counts, c.loop.invariant.frames);
+      refused = omega (arith, ap (λ (x : Counts). x.refused) counts, refused_grow (accepted payload before) c.loop.loading.counts, c.loop.invariant.refused);
+      pixels = omega (arith, c.in_ok-answer.ensures.most, c.loop.invariant.pixels);
+    }
+
+pub returns : goal.returns
+returns c =
+    counted_none (counts_of (answers_from (payloads c.args.number c.args.count) start_state)) c.loop.loading.counts c.loop.generator (c.loop.loading.scene, c.loop.loading.gens)
+    (c.args.count - c.loop.counter) (omega arith) c.loop.invariant.all
+    ∙ file_answers c.args.number c.args.count c.requires
