@@ -1,8 +1,9 @@
 -- A write to a part of a row, byte by byte.
-use Rattle.std.proofs.Common.{◌≡◌, ◌≢◌, ℕ, ◌+◌, ◌-◌, ◌*◌, ◌<◌, ◌≤◌, ◌⊎◌, List, ◌++◌, length, take, drop, get_or, inl, inr, refl, ap, arith, ◌∙◌}
-use Rattle.std.proofs.lemmas.List.{get_or-append_right, get_or_append_left, get_or-take, get_or-drop, take_at, length-take-le, length-drop, length-append}
+use Rattle.std.proofs.Common.{◌≡◌, ◌≢◌, ℕ, ◌+◌, ◌-◌, ◌*◌, ◌<◌, ◌≤◌, ◌⊎◌, List, ◌++◌, length, take, drop, get_or, inl, inr, refl, sym, ap, append_assoc, arith, ◌∙◌}
+use Rattle.std.proofs.lemmas.List.{get_or-append_right, get_or_append_left, get_or-take, get_or-drop, take_at, drop-drop, length-take-le, length-drop, length-append}
 use Rattle.std.proofs.lemmas.Nat.{mul-le}
 use Rattle.std.proofs.lemmas.Bool.{cases_order}
+use Rattle.blend_rules.specs.Pixels.{written}
 use Rattle.blend_rules.specs.declared.plane.Plane.{Plane}
 use Rattle.blend_rules.specs.declared.plane.Plane.TheVariants.{B, G, R, A}
 use Rattle.span_kernels.specs.PlanesModel.{PlanesModel, overwritten, byte_at, with_part, plane_of, with_plane, index_of}
@@ -20,6 +21,9 @@ module _ (old : List ℕ) (at : ℕ) (new : List ℕ) (fits : at + length new �
 
   overwritten_is : overwritten old at new ≡ spliced
   overwritten_is = take_at spliced (drop (length spliced) old) (length old) length-spliced
+
+  pub fitting_is_written : overwritten old at new ≡ written old at new
+  fitting_is_written = overwritten_is ∙ ap (λ rest. take at old ++ (new ++ rest)) (drop-drop (length new) at old) ∙ sym (append_assoc (take at old) new (drop (at + length new) old))
 
   pub length-overwritten : length (overwritten old at new) ≡ length old
   length-overwritten = ap length overwritten_is ∙ length-spliced

@@ -19,7 +19,8 @@ ScaledByPlane = (p : Plane) (s : Px) (c : ℕ) → channel p (scaled s c) ≡ pr
 
 -- a blended colour, in the planes of colour
 abbrev pub BlendedByPlane : Type 0
-BlendedByPlane = (p : Plane) (m : Mode) (s d : Px) → p ≢ A → channel p (blended m s d) ≡ blended_channel m s.a d.a (channel p s) (channel p d)
+BlendedByPlane = (p : Plane) (m : Mode) (s d : Px) → p ≢ A
+    → channel p (blended m s d) ≡ blended_channel m s.a d.a (channel p s) (channel p d)
 
 -- and in that of alpha, in every mode
 abbrev pub BlendedAlpha : Type 0
@@ -27,4 +28,5 @@ BlendedAlpha = (m : Mode) (s d : Px) → s.a < 2 ^ 8 → channel A (blended m s 
 
 -- the planes of a row of pixels weave its bytes
 abbrev pub WovenPixels : Type 0
-WovenPixels = (row : List Px) → interleaved (map (channel B) row) (map (channel G) row) (map (channel R) row) (map (channel A) row) ≡ pixel_bytes row
+WovenPixels = (row : List Px)
+    → interleaved (map (channel B) row) (map (channel G) row) (map (channel R) row) (map (channel A) row) ≡ pixel_bytes row

@@ -1,7 +1,8 @@
 -- What a write to a part of a row leaves.
 use Rattle.std.specs.Prelude.{◌≡◌, ◌≢◌, ℕ, ◌+◌, ◌<◌, ◌≤◌, ◌⊎◌, List, length, slice_index_or}
 use Rattle.blend_rules.specs.declared.plane.Plane.{Plane}
-use Rattle.span_kernels.specs.PlanesModel.{PlanesModel, byte_at, plane_of, with_part, IsWhole}
+use Rattle.blend_rules.specs.Pixels.{written}
+use Rattle.span_kernels.specs.PlanesModel.{PlanesModel, overwritten, byte_at, plane_of, with_part, IsWhole}
 
 -- new is old with bytes in row y of one plane from column x on, and every other byte is as it was
 pub record IsPartWritten (old new : PlanesModel) (plane : Plane) (y x : ℕ) (bytes : List ℕ) : Type 0 where
@@ -17,3 +18,8 @@ pub record IsPartWritten (old new : PlanesModel) (plane : Plane) (y x : ℕ) (by
 abbrev pub PartIsWritten : Type 0
 PartIsWritten = (planes : PlanesModel) (plane : Plane) (y x : ℕ) (bytes : List ℕ) → IsWhole planes → y < planes.height
     → x + length bytes ≤ planes.width → IsPartWritten planes (with_part plane y x bytes planes) plane y x bytes
+
+-- where the others fit, a list is overwritten as it is written
+abbrev pub FittingIsWritten : Type 0
+FittingIsWritten = (old : List ℕ) (at : ℕ) (new : List ℕ) → at + length new ≤ length old
+    → overwritten old at new ≡ written old at new

@@ -37,7 +37,12 @@ byte_at plane planes x y = slice_index_or (plane_of plane planes) (index_of plan
 
 -- the colour at a column and row
 abbrev pub pixel_at : PlanesModel → ℕ → ℕ → Px
-pixel_at planes x y = record { b = byte_at B planes x y; g = byte_at G planes x y; r = byte_at R planes x y; a = byte_at A planes x y }
+pixel_at planes x y = record {
+  b = byte_at B planes x y;
+  g = byte_at G planes x y;
+  r = byte_at R planes x y;
+  a = byte_at A planes x y;
+}
 
 -- so many bytes of a plane in row y, from column x on
 abbrev pub part_of : Plane → PlanesModel → ℕ → ℕ → ℕ → List ℕ

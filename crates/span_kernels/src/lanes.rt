@@ -79,7 +79,8 @@ pub(crate) fn limited_lanes(limit: u8x16, x: u16x16) -> u8x16
 /// Each byte of `low` where that of `x` is at most that of `y`, and else that of `high`.
 #[inline(always)]
 pub(crate) fn choose_lanes(x: u8x16, y: u8x16, low: u8x16, high: u8x16) -> u8x16
-    ensures { AreLanes result (λ k. if nat_le (slice_index x k) (slice_index y k) then slice_index low k else slice_index high k) }
+    ensures { AreLanes result (λ k. if nat_le (slice_index x k) (slice_index y k)
+        then slice_index low k else slice_index high k) }
 {
     x.simd_le(y).select(low, high)
 }

@@ -3,7 +3,7 @@ ghost use Rattle.std.specs.Borrow.{sem};
 ghost use Rattle.blend_rules.specs.declared.plane.Plane.{Plane};
 ghost use Rattle.blend_rules.specs.declared.plane.Plane.TheVariants.{B, G, R, A};
 ghost use Rattle.span_kernels.specs.PlanesModel.{plane_of, part_of, pixel_at, with_part, IsWhole};
-ghost use Rattle.span_kernels.specs.Parts.{IsPartWritten, PartIsWritten};
+ghost use Rattle.span_kernels.specs.Parts.{IsPartWritten, PartIsWritten, FittingIsWritten};
 
 use blend_rules::{Plane, Px};
 use std::alloc::{AllocError, Global};
@@ -52,7 +52,8 @@ impl Model for Planes {
 impl Planes {
     ghost use Rattle.span_kernels.specs.Lending.{LendsPart};
 
-    /// Planes of these sides in pixels, all of whose bytes are 0.
+    /// Planes of these sides in pixels, all of whose bytes are 0. `NoMemory` where there is none for a byte of each pixel
+    /// in each plane.
     pub fn new(alloc: Global, width: u16, height: u16) -> Result<Planes, NoMemory>
         ensures width { IfOk result (λ planes. planes.width ≡ width) }
         ensures height { IfOk result (λ planes. planes.height ≡ height) }
@@ -179,7 +180,8 @@ pub fn know_planes(planes: &Planes)
 
 /// What a write to a part of a row leaves, for whoever reasons about the definitions. It does nothing.
 pub fn part_laws()
-    ensures { PartIsWritten }
+    ensures part { PartIsWritten }
+    ensures fitting { FittingIsWritten }
 {}
 
 fn zeros(alloc: Global, size: usize) -> Result<Vec<u8>, AllocError>
