@@ -5,3 +5,4 @@ pub mod Pixels
 pub mod Refusals
 pub mod Counting
 pub mod Sizes
+pub mod Numbers

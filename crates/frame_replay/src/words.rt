@@ -24,7 +24,8 @@ const MAX_DIGITS: usize = 10;
 fn are_digits(word: &str) -> bool
     ensures { result ≡ all_ascii_digits word.now }
 {
-    for byte in word.as_bytes() {
+    let bytes = word.as_bytes();
+    for byte in bytes {
         if !byte.is_ascii_digit() {
             return false;
         }

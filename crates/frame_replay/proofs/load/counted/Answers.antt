@@ -1,6 +1,6 @@
 use Rattle.std.proofs.Common.{◌≡◌, ℕ, List, ◌+◌, ◌-◌, ap, ◌∙◌, arith}
 use Rattle.file_generator.specs.Files.{Generating, payloads}
-use Rattle.frame_replay.specs.Answer.{accepted, next_state, start_state}
+use Rattle.frame_replay.specs.Answer.{ReplayState, accepted, next_state, start_state}
 use Rattle.frame_replay.specs.Load.{answers_from, counts_of, with_answer}
 use Rattle.frame_replay.specs.declared.load.Counts.{Counts}
 use Rattle.frame_replay.proofs.Counting.{counted_more, counted_none, file_answers, frames_grow, refused_grow}
@@ -8,8 +8,8 @@ use Rattle.frame_replay.proofs.load.counted.Goals as goal
 
 pub loop-preserved : goal.loop-preserved
 loop-preserved c =
-    let before = (c.loop.loading.scene, c.loop.loading.gens) in
-    let after = (c.answer.new.self.scene, c.answer.new.self.gens) in
+    let before : ReplayState = (c.loop.loading.scene, c.loop.loading.gens) in
+    let after : ReplayState = (c.answer.new.self.scene, c.answer.new.self.gens) in
     let payload = c.put_next.new.payload.items in
     let state : after ≡ next_state payload before = c.in_ok-answer.ensures.state ∙ ap (λ (p : List ℕ). next_state p before) c.as_slice.ensures.value in
     let counts : c.answer.new.self.counts ≡ with_answer (accepted payload before) c.loop.loading.counts =
