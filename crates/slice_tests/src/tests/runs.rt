@@ -72,11 +72,7 @@ fn expect_slice(rt: &impl Abort, slice: &Slice, wanted: Wanted) {
 }
 
 /// Expects these slices of solids.
-fn expect(
-    rt: &(impl Abort + AllocGlobal),
-    scrolls: &[u8],
-    wanted: &[Wanted],
-) -> Result<(), Fail> {
+fn expect(rt: &(impl Abort + AllocGlobal), scrolls: &[u8], wanted: &[Wanted]) -> Result<(), Fail> {
     let slices = slices_of(rt.alloc(), pieces(rt.alloc(), scrolls)?.as_slice())?;
     assert_eq!(rt; slices.len(), wanted.len());
     for (slice, wanted) in slices.as_slice().iter().zip(wanted) {

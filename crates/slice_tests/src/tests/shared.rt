@@ -13,13 +13,20 @@ type Shown = (u8, u8, u8, u8);
 type Case = (&'static [Clipped], &'static [Clipped], Shown, usize);
 
 const VIEW: Shown = (0, 0, 6, 5);
+
 const WIDE: Shown = (0, 0, 4, 4);
+
 const NARROW: Shown = (1, 0, 3, 3);
 
 /// Rectangle clips of other homes are shared, up to the first that isn't.
 const CASES: [Case; 8] = [
     (&[(Wide, 0)], &[(Wide, 0), (Round, 0)], WIDE, 1),
-    (&[(Wide, 2), (Narrow, 0)], &[(Wide, 2), (Narrow, 0)], NARROW, 2),
+    (
+        &[(Wide, 2), (Narrow, 0)],
+        &[(Wide, 2), (Narrow, 0)],
+        NARROW,
+        2,
+    ),
     (&[], &[(Wide, 0)], VIEW, 0),
     (&[(Round, 0), (Wide, 0)], &[(Round, 0), (Wide, 0)], VIEW, 0),
     (
@@ -28,7 +35,12 @@ const CASES: [Case; 8] = [
         WIDE,
         1,
     ),
-    (&[(Outside, 0), (Wide, 0)], &[(Outside, 0), (Wide, 0)], VIEW, 0),
+    (
+        &[(Outside, 0), (Wide, 0)],
+        &[(Outside, 0), (Wide, 0)],
+        VIEW,
+        0,
+    ),
     (&[(Wide, 0)], &[(Wide, 2)], VIEW, 0),
     (&[(Wide, 0)], &[(Narrow, 0)], VIEW, 0),
 ];
@@ -51,7 +63,10 @@ fn pair<'a>(clips: &'a [Clipped], others: &'a [Clipped]) -> [Piece<'a>; 2] {
 
 /// Expects the entry at an index to have so many clips.
 fn expect_clips(rt: &impl Abort, slice: &Slice, index: usize, count: usize) {
-    let found = slice.entries.get(index).map_or(usize::MAX, |e| e.clips().len());
+    let found = slice
+        .entries
+        .get(index)
+        .map_or(usize::MAX, |e| e.clips().len());
     assert_eq!(rt; found, count, "clips of entry {index}");
 }
 
