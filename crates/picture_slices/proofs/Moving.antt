@@ -5,22 +5,20 @@ use Rattle.std.proofs.lemmas.List.{map-append}
 use Rattle.std.proofs.lemmas.List.Elements.{All-head, All-tail, All-cons}
 use Rattle.wr_geom.specs.declared.point.Point.{Point}
 use Rattle.primitives.specs.declared.entry.Entry.{Entry}
-use Rattle.primitives.specs.declared.entry.Entry.TheVariants as entry
 use Rattle.primitives.specs.declared.entry.Top.{Top}
 use Rattle.primitives.specs.Clipping.{without_clips}
 use Rattle.primitives.specs.Facts.{IsEntry}
 use Rattle.primitives.specs.Moves.{shifted_entry, shifted_entries}
 use Rattle.picture_slices.specs.Fits.{IsCloseEntry}
 use Rattle.picture_slices.specs.Slices.{first_without, entries_without}
-use Rattle.picture_slices.proofs.Closeness.{close_without}
 
 -- after the first entry, with the others moved, all are
-pub begun : (old now all rest : List Entry) (e bare m : Entry) (n : ℕ) (by : Point) → all ≡ e ∷ rest → bare ≡ without_clips e n → m ≡ shifted_entry bare by → now ≡ old ++ m ∷ []
+pub begun : (old now all rest : List Entry) (e m : Entry) (n : ℕ) (by : Point) → all ≡ e ∷ rest → m ≡ shifted_entry (without_clips e n) by → now ≡ old ++ m ∷ []
     → now ++ shifted_entries rest by ≡ old ++ shifted_entries (first_without n all) by
-begun old now all rest e bare m n by whole thin moved put =
+begun old now all rest e m n by whole moved put =
     ap (λ (xs : List Entry). xs ++ shifted_entries rest by) put
     ∙ append_assoc old (m ∷ []) (shifted_entries rest by)
-    ∙ ap (λ (x : Entry). old ++ (x ∷ shifted_entries rest by)) (moved ∙ ap (λ (x : Entry). shifted_entry x by) thin)
+    ∙ ap (λ (x : Entry). old ++ (x ∷ shifted_entries rest by)) moved
     ∙ sym (ap (λ (xs : List Entry). old ++ shifted_entries (first_without n xs) by) whole)
 
 -- one entry more
@@ -45,19 +43,8 @@ moved_none old all rest n by none also =
 pub first_close : (all rest : List Entry) (e : Entry) → all ≡ e ∷ rest → All IsCloseEntry all → IsCloseEntry e
 first_close all rest e is close = All-head IsCloseEntry e rest (subst (All IsCloseEntry) is close)
 
-pub bare_close : (all rest : List Entry) (e bare : Entry) (n : ℕ) → all ≡ e ∷ rest → bare ≡ without_clips e n → All IsCloseEntry all → IsCloseEntry bare
-bare_close all rest e bare n is thin close = subst IsCloseEntry (sym thin) (close_without e n (first_close all rest e is close))
-
 pub rest_close : (all rest : List Entry) (e : Entry) → all ≡ e ∷ rest → All IsCloseEntry all → All IsCloseEntry rest
 rest_close all rest e is close = All-tail IsCloseEntry e rest (subst (All IsCloseEntry) is close)
-
-good_with : (e : Entry) (n : ℕ) → IsEntry (without_clips e n) → IsEntry e
-good_with (entry.Primitive p) n good = good
-good_with (entry.Push o m clips) n good = good
-good_with entry.Pop n good = tt
-
-pub first_good : (all rest : List Entry) (e bare : Entry) (n : ℕ) → all ≡ e ∷ rest → bare ≡ without_clips e n → IsEntry bare → All IsEntry rest → All IsEntry all
-first_good all rest e bare n is thin good others = subst (All IsEntry) (sym is) (All-cons IsEntry e rest (good_with e n (subst IsEntry thin good)) others)
 
 pub next_good : (left rest : List Entry) (e : Entry) → left ≡ e ∷ rest → IsEntry e → All IsEntry rest → All IsEntry left
 next_good left rest e is good others = subst (All IsEntry) (sym is) (All-cons IsEntry e rest good others)

@@ -1,7 +1,7 @@
 //! Entries that are moved into the coordinates of a slice.
 
 ghost use Rattle.std.specs.Prelude.{◌≡◌, ◌≤◌, ◌++◌, length, All, OnOk, IfOk};
-ghost use Rattle.primitives.specs.Clipping.{entry_clips};
+ghost use Rattle.primitives.specs.Clipping.{entry_clips, without_clips};
 ghost use Rattle.primitives.specs.declared.entry.Top.{Top as TopValue};
 ghost use Rattle.primitives.specs.Facts.{IsEntry};
 ghost use Rattle.primitives.specs.Moves.{shifted_entry, shifted_entries};
@@ -35,6 +35,20 @@ fn moved(entry: Entry, by: Point) -> Entry
     entry.shift(by)
 }
 
+/// The first entry of a top, moved and without its first `skip` clips.
+#[tactic(auto, using(crate::proofs::Closeness::close_without))]
+fn first_moved(entry: Entry, skip: usize, by: Point) -> Entry
+    requires close { IsCloseEntry entry }
+    requires skip { skip ≤ length (entry_clips entry) }
+    requires by { IsSliceOrigin by }
+    ensures value { result ≡ shifted_entry (without_clips entry skip) by }
+    ensures good { IsEntry entry }
+{
+    know_entry(&entry);
+    let bare = entry.without_clips(skip);
+    moved(bare, by)
+}
+
 /// Appends the entries of a top, moved, and the first one without its first `skip` clips.
 fn add_top(entries: &mut Vec<Entry>, top: Top, skip: usize, by: Point) -> Result<(), NoMemory>
     requires top { IsTop top }
@@ -45,8 +59,7 @@ fn add_top(entries: &mut Vec<Entry>, top: Top, skip: usize, by: Point) -> Result
 {
     let mut own = top.entries.into_vec().into_iter();
     if let Some(first) = own.next() {
-        let bare = first.without_clips(skip);
-        entries.push(moved(bare, by))?;
+        entries.push(first_moved(first, skip, by))?;
     }
     for entry in own {
         entries.push(moved(entry, by))?;

@@ -42,7 +42,7 @@ two_solids es n opacity mode clips d e first second rect small own none all is a
       whole = whole.group opacity mode clips inner (row.primitive p _ (row.primitive q [] row.none));
       clips = sym count;
       close =
-      All-cons IsCloseEntry push _ are
-      (All-cons IsCloseEntry (entry.Primitive p) _ (record { rect = close; kind = tt; clips = its })
-      (All-cons IsCloseEntry (entry.Primitive q) _ (record { rect = near; kind = tt; clips = others }) (All-cons IsCloseEntry entry.Pop [] tt (All-nil IsCloseEntry))));
+          All-cons IsCloseEntry push (entry.Primitive p ∷ entry.Primitive q ∷ entry.Pop ∷ []) are
+          (All-cons IsCloseEntry (entry.Primitive p) (entry.Primitive q ∷ entry.Pop ∷ []) (record { rect = close; kind = tt; clips = its })
+          (All-cons IsCloseEntry (entry.Primitive q) (entry.Pop ∷ []) (record { rect = near; kind = tt; clips = others }) (All-cons IsCloseEntry entry.Pop [] tt (All-nil IsCloseEntry))));
     })

@@ -116,8 +116,8 @@ fn clips_of(alloc: Global, clips: &[Clipped]) -> Result<Sequence<Clip>, Fail>
     ensures close { IfOk result (λ cs. AreCloseClips cs) }
 {
     let mut made = Sequence::new(alloc);
-    for (shape, _) in clips {
-        made.push(clip(*shape)?)?;
+    for clipped in clips {
+        made.push(clip(clipped.0)?)?;
     }
     Ok(made)
 }
@@ -127,8 +127,8 @@ fn homes_of(alloc: Global, clips: &[Clipped]) -> Result<Sequence<Home>, AllocErr
     ensures { IfOk result (λ hs. length hs ≡ length clips.now) }
 {
     let mut made = Sequence::new(alloc);
-    for (_, scroll) in clips {
-        made.push(home(*scroll))?;
+    for clipped in clips {
+        made.push(home(clipped.1))?;
     }
     Ok(made)
 }
@@ -143,7 +143,7 @@ fn solid(colour: Px, rect: Rect, clips: Sequence<Clip>) -> Result<Entry, Fail>
 
 /// A solid of five by four pixels from (0, 0), under the clips of a piece.
 fn primitive_of(alloc: Global, piece: &Piece<'_>) -> Result<Sequence<Entry>, Fail>
-    ensures { IfOk result (λ es. IsTopOf (length piece.now.clips) es) }
+    ensures { IfOk result (λ es. IsTopOf (length piece.now.clips.now) es) }
 {
     let clips = clips_of(alloc, piece.clips)?;
     let mut entries = Sequence::new(alloc);
@@ -153,7 +153,7 @@ fn primitive_of(alloc: Global, piece: &Piece<'_>) -> Result<Sequence<Entry>, Fai
 
 /// A group of that solid and a small white one, of opacity 200, under the same clips.
 fn group_of(alloc: Global, piece: &Piece<'_>) -> Result<Sequence<Entry>, Fail>
-    ensures { IfOk result (λ es. IsTopOf (length piece.now.clips) es) }
+    ensures { IfOk result (λ es. IsTopOf (length piece.now.clips.now) es) }
 {
     let push = Entry::Push {
         opacity: 200,

@@ -8,6 +8,7 @@ use image_store::Store;
 use picture_slices::Slice;
 use primitives::Top;
 use std::alloc::{AllocError, Global};
+use std::process::Abort;
 use std::test::Fail;
 use wr_geom::Point;
 
@@ -99,23 +100,40 @@ fn of_slices(alloc: Global, slices: &[Slice], store: &Store, at: Point) -> Resul
     Ok(picture)
 }
 
+/// Compares a pixel of both.
+fn expect_same(
+    rt: &(impl Abort + AllocGlobal),
+    tops: &[Top],
+    slices: &[Slice],
+    store: &Store,
+    at: Point,
+) -> Result<(), Fail> {
+    let want = of_tops(rt.alloc(), tops, store, at)?;
+    let found = of_slices(rt.alloc(), slices, store, at)?;
+    assert_eq!(rt; found, want);
+    Ok(())
+}
+
+/// Compares each pixel of a picture of six by five pixels.
+fn expect_picture(rt: &(impl Abort + AllocGlobal), seed: u64) -> Result<(), Fail> {
+    let store = Store::new(rt.alloc());
+    let pieces = pieces(rt.alloc(), seed)?;
+    let tops = tops_of(rt.alloc(), &pieces)?;
+    let slices = slices_of(rt.alloc(), &pieces)?;
+    for pixel in 0..30u8 {
+        let at = Point {
+            x: i32::from(pixel % 6),
+            y: i32::from(pixel / 6),
+        };
+        expect_same(rt, tops.as_slice(), slices.as_slice(), &store, at)?;
+    }
+    Ok(())
+}
+
 #[test]
 fn slices_paint_what_the_tops_do(rt: HostRuntime) -> Result<(), Fail> {
-    let alloc = rt.alloc();
-    let store = Store::new(alloc);
     for seed in 0..PICTURES {
-        let pieces = pieces(alloc, seed)?;
-        let tops = tops_of(alloc, &pieces)?;
-        let slices = slices_of(alloc, &pieces)?;
-        for pixel in 0..30u8 {
-            let at = Point {
-                x: i32::from(pixel % 6),
-                y: i32::from(pixel / 6),
-            };
-            let want = of_tops(alloc, tops.as_slice(), &store, at)?;
-            let found = of_slices(alloc, slices.as_slice(), &store, at)?;
-            assert_eq!(rt; found, want, "picture {seed}, pixel {pixel}");
-        }
+        expect_picture(&rt, seed)?;
     }
     Ok(())
 }

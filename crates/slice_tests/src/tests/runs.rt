@@ -1,12 +1,50 @@
 //! Runs of one home, their slices and keys.
 
 use super::made::{HALF, Piece, home, origin, slices_of};
+use picture_slices::Slice;
 use std::alloc::{AllocError, Global};
 use std::process::Abort;
 use std::test::Fail;
 use wr_geom::SliceKey;
 
-/// A solid of each of these scroll frames, 0 for none.
+/// A slice's scroll frame, 0 for none, its number, and how many entries it has.
+type Wanted = (u8, u8, usize);
+
+/// The scroll frames of solids, 0 for none, and their slices.
+const CASES: [(&[u8], &[Wanted]); 6] = [
+    (&[], &[]),
+    (&[0, 0, 3, 3, 3], &[(0, 0, 2), (3, 0, 3)]),
+    (&[1, 2, 1], &[(1, 0, 1), (2, 0, 1), (1, 1, 1)]),
+    (&[1, 2, 1, 2, 0, 1, 0, 9], &EIGHT),
+    (&[0, 1, 2, 3, 4, 5, 6, 7, 8, 8], &NINE),
+    (&[0, 1, 2, 3, 4, 5, 6, 0, 0, 8], &NINE),
+];
+
+/// Eight runs, each a slice.
+const EIGHT: [Wanted; 8] = [
+    (1, 0, 1),
+    (2, 0, 1),
+    (1, 1, 1),
+    (2, 1, 1),
+    (0, 0, 1),
+    (1, 2, 1),
+    (0, 1, 1),
+    (9, 0, 1),
+];
+
+/// More runs: the rest is one slice without a home.
+const NINE: [Wanted; 8] = [
+    (0, 0, 1),
+    (1, 0, 1),
+    (2, 0, 1),
+    (3, 0, 1),
+    (4, 0, 1),
+    (5, 0, 1),
+    (6, 0, 1),
+    (0, 1, 3),
+];
+
+/// A solid of each of these scroll frames.
 fn pieces(alloc: Global, scrolls: &[u8]) -> Result<Vec<Piece<'static>>, AllocError> {
     let mut pieces = Vec::new(alloc);
     for scroll in scrolls {
@@ -20,57 +58,33 @@ fn pieces(alloc: Global, scrolls: &[u8]) -> Result<Vec<Piece<'static>>, AllocErr
     Ok(pieces)
 }
 
-/// Expects these slices of solids: scroll frame, number, and how many entries.
-fn expect(
-    rt: &(impl Abort + AllocGlobal),
-    scrolls: &[u8],
-    wanted: &[(u8, u8, usize)],
-) -> Result<(), Fail> {
+/// Expects a slice of these.
+fn expect_slice(rt: &impl Abort, slice: &Slice, wanted: Wanted) {
+    let (scroll, nth, count) = wanted;
+    let scroll_home = home(scroll);
+    let key = SliceKey {
+        scroll: scroll_home,
+        nth,
+    };
+    assert_eq!(rt; slice.key, key);
+    assert_eq!(rt; slice.origin, origin(scroll));
+    assert_eq!(rt; slice.entries.len(), count);
+}
+
+/// Expects these slices of solids.
+fn expect(rt: &(impl Abort + AllocGlobal), scrolls: &[u8], wanted: &[Wanted]) -> Result<(), Fail> {
     let slices = slices_of(rt.alloc(), pieces(rt.alloc(), scrolls)?.as_slice())?;
     assert_eq!(rt; slices.len(), wanted.len());
-    for (slice, (scroll, nth, count)) in slices.as_slice().iter().zip(wanted) {
-        let key = SliceKey {
-            scroll: home(*scroll),
-            nth: *nth,
-        };
-        assert_eq!(rt; slice.key, key);
-        assert_eq!(rt; slice.origin, origin(*scroll));
-        assert_eq!(rt; slice.entries.len(), *count);
+    for (slice, wanted) in slices.as_slice().iter().zip(wanted) {
+        expect_slice(rt, slice, *wanted);
     }
     Ok(())
 }
 
 #[test]
-fn each_change_of_home_begins_a_slice(rt: HostRuntime) -> Result<(), Fail> {
-    expect(&rt, &[], &[])?;
-    expect(&rt, &[0, 0, 3, 3, 3], &[(0, 0, 2), (3, 0, 3)])?;
-    expect(&rt, &[1, 2, 1], &[(1, 0, 1), (2, 0, 1), (1, 1, 1)])?;
-    let eight = [1, 2, 1, 2, 0, 1, 0, 9];
-    let keys = [
-        (1, 0, 1),
-        (2, 0, 1),
-        (1, 1, 1),
-        (2, 1, 1),
-        (0, 0, 1),
-        (1, 2, 1),
-        (0, 1, 1),
-        (9, 0, 1),
-    ];
-    expect(&rt, &eight, &keys)
-}
-
-#[test]
-fn the_rest_of_nine_runs_has_no_home(rt: HostRuntime) -> Result<(), Fail> {
-    let nine = [0, 1, 2, 3, 4, 5, 6, 7, 8, 8];
-    let keys = [
-        (0, 0, 1),
-        (1, 0, 1),
-        (2, 0, 1),
-        (3, 0, 1),
-        (4, 0, 1),
-        (5, 0, 1),
-        (6, 0, 1),
-        (0, 1, 3),
-    ];
-    expect(&rt, &nine, &keys)
+fn tops_are_divided_into_slices(rt: HostRuntime) -> Result<(), Fail> {
+    for (scrolls, wanted) in &CASES {
+        expect(&rt, scrolls, wanted)?;
+    }
+    Ok(())
 }

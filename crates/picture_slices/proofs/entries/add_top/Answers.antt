@@ -6,14 +6,14 @@ use Rattle.primitives.specs.declared.entry.Entry.{Entry}
 use Rattle.primitives.specs.Facts.{IsEntry}
 use Rattle.primitives.specs.Moves.{shifted_entries}
 use Rattle.picture_slices.specs.Fits.{IsCloseEntry}
-use Rattle.picture_slices.proofs.Moving.{begun, moved_one, moved_all, moved_none, bare_close, rest_close, first_close, first_good, next_good}
+use Rattle.picture_slices.proofs.Moving.{begun, moved_one, moved_all, moved_none, rest_close, first_close, next_good}
 use Rattle.picture_slices.proofs.entries.add_top.Goals.{in-Some+in_ok-push, in_default}
 use Rattle.picture_slices.proofs.entries.add_top.Goals as goal
 
-pub moved-requires-clause-close : goal.moved-requires-clause-close
-moved-requires-clause-close c =
+pub first_moved-requires-clause-close : goal.first_moved-requires-clause-close
+first_moved-requires-clause-close c =
     let whole = c.into_iter-own.ensures.rest ∙ c.into_vec.ensures in
-    bare_close c.args.top.entries c.next.new.self.rest.items c.in-Some.first c.without_clips-bare.result c.args.skip (sym whole ∙ c.in-Some.ensures.items) c.without_clips-bare.ensures c.requires.top.close
+    first_close c.args.top.entries c.next.new.self.rest.items c.in-Some.first (sym whole ∙ c.in-Some.ensures.items) c.requires.top.close
 
 pub loop-entry-init : goal.loop-entry-init
 loop-entry-init c =
@@ -27,9 +27,9 @@ loop-entry-init c =
           let put = ap (λ v. v.items) w.entries-is ∙ w.in_ok-push.ensures.items in
           record {
             value =
-                begun c.args.entries.now.items c.match-next.entries.items all rest w.in-Some.first w.without_clips-bare.result w.moved.result c.args.skip c.args.by parts w.without_clips-bare.ensures w.moved.ensures.value put;
+                begun c.args.entries.now.items c.match-next.entries.items all rest w.in-Some.first w.first_moved.result c.args.skip c.args.by parts w.first_moved.ensures.value put;
             close = rest_close all rest w.in-Some.first parts c.requires.top.close;
-            good = λ others. first_good all rest w.in-Some.first w.without_clips-bare.result c.args.skip parts w.without_clips-bare.ensures w.moved.ensures.good others;
+            good = λ others. next_good all rest w.in-Some.first parts w.first_moved.ensures.good others;
           }
       | in_default w ↦
           let left = nil_from_length c.into_iter-own.result.rest.items (sym c.into_iter-own.result.rest.ok.0 ∙ w.in_default.ensures.cases.0) in
@@ -43,8 +43,8 @@ loop-entry-init c =
           }
     ]
 
-pub moved-requires-in-loop-entry-clause-close : goal.moved-requires-in-loop-entry-clause-close
-moved-requires-in-loop-entry-clause-close c =
+pub moved-requires-clause-close : goal.moved-requires-clause-close
+moved-requires-clause-close c =
     first_close c.loop-entry.entry-iterator.rest.items c.next-in-loop-entry.new.self.rest.items c.in-Some-entry.entry c.in-Some-entry.ensures.steps.0 c.loop-entry.invariant.close
 
 pub loop-entry-preserved : goal.loop-entry-preserved
@@ -55,10 +55,10 @@ loop-entry-preserved c =
     let parts = c.in-Some-entry.ensures.steps.0 in
     record {
       value =
-          moved_one c.loop-entry.entries.items c.push-in-loop-entry.new.self.items left rest _ e c.moved-in-loop-entry.result c.args.by parts c.moved-in-loop-entry.ensures.value c.in_ok-push-2.ensures.items
+          moved_one c.loop-entry.entries.items c.push-in-loop-entry.new.self.items left rest _ e c.moved.result c.args.by parts c.moved.ensures.value c.in_ok-push-2.ensures.items
           c.loop-entry.invariant.value;
       close = rest_close left rest e parts c.loop-entry.invariant.close;
-      good = λ others. c.loop-entry.invariant.good (next_good left rest e parts c.moved-in-loop-entry.ensures.good others);
+      good = λ others. c.loop-entry.invariant.good (next_good left rest e parts c.moved.ensures.good others);
     }
 
 pub returns-clause-value : goal.returns-clause-value

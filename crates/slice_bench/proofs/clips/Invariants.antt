@@ -1,0 +1,6 @@
+use Rattle.std.proofs.Common.{◌≡◌, length}
+use Rattle.picture_slices.specs.Fits.{AreCloseClips}
+use Rattle.slice_bench.proofs.clips.Given as goal
+
+abbrev pub invariant-loop-k : goal.invariant-loop-k
+invariant-loop-k l = record { count : length l.clips ≡ l.k; close : AreCloseClips l.clips }

@@ -1,0 +1,6 @@
+use Rattle.std.proofs.Common.{◌≡◌, length}
+use Rattle.picture_slices.specs.Fits.{AreCloseClips}
+use Rattle.slice_tests.proofs.tests.made.clips_of.Given as goal
+
+abbrev pub invariant-loop-clipped : goal.invariant-loop-clipped
+invariant-loop-clipped l = record { count : length l.made ≡ l.clipped-index; close : AreCloseClips l.made }

@@ -1,0 +1,5 @@
+use Rattle.picture_slices.specs.Fits.{AreTops}
+use Rattle.slice_tests.proofs.tests.made.tops_of.Given as goal
+
+abbrev pub invariant-loop-piece : goal.invariant-loop-piece
+invariant-loop-piece l = AreTops l.tops
