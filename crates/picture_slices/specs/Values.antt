@@ -8,7 +8,7 @@ use Rattle.image_store.specs.StoreModel.{StoreModel}
 use Rattle.primitives.specs.declared.entry.Top.{Top}
 use Rattle.primitives.specs.Stacks.{value_at}
 use Rattle.slice_rules.specs.Runs.{Run}
-use Rattle.picture_slices.specs.Slices.{top_entries}
+use Rattle.primitives.specs.Tops.{top_entries}
 use Rattle.picture_slices.specs.declared.slice.Slice.{Slice}
 
 -- the tops of a run, painted in order on clear
