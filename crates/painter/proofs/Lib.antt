@@ -1,3 +1,4 @@
+pub mod Frames
 pub mod Enough
 pub mod Reaching
 pub mod Slicing

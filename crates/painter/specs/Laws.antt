@@ -12,6 +12,7 @@ use Rattle.image_store.specs.StoreModel.{IsStore}
 use Rattle.pipelines.specs.Table.{PipelineMap, pipeline_list, AreByteOpacities, AreFit}
 use Rattle.primitives.specs.PrimitiveModel.{PrimitiveModel}
 use Rattle.scene_limits.specs.Places.{zero_point}
+use Rattle.painter.specs.Frames.{root_frame_of, scroll_at}
 use Rattle.painter.specs.PlacedList.{PlacedList, placed_at, item_rect, chain_clips, opacity_of, is_plain}
 use Rattle.painter.specs.Painter.{ScenePixel, ListPainter, under, paint_primitive, paint_tree, paint_trees, paint_list, paint_levels, paint_pipeline}
 use Rattle.painter.specs.TopItems.{Home, Around, TopItem, TopLister, tree_tops, trees_tops, list_tops, tops_in, pipeline_tops, top_items, own_chain, home_of}
@@ -200,6 +201,10 @@ pub record IsTopItem (t : TopItem) : Type 0 where
 -- each top item is a primitive or a group of its list
 abbrev pub TopsAreDrawn : Type 0
 TopsAreDrawn = (s : ScenePixel) → IsScenePixel s → All IsTopItem (top_items s.pipelines)
+
+-- the outermost scroll frame of a node has the scroll number that makes the node's home
+abbrev pub FrameHasRootScroll : Type 0
+FrameHasRootScroll = (nodes : List Node) (node : ℕ) → scroll_at nodes (root_frame_of nodes node) ≡ root_scroll_of nodes node
 
 -- an opaque solid over a pixel, of which clips leave all, hides the top items before it
 abbrev pub OpaqueSolidHides : Type 0

@@ -7,7 +7,7 @@ ghost use Rattle.painter.specs.Laws.{EmptyIframePaintsNothing, EmptyIframeHasNoT
 ghost use Rattle.painter.specs.Laws.{PlainContextPaintsItems, PlainContextHasTheirTops, GroupOnClearIsItsItems};
 ghost use Rattle.painter.specs.Laws.{MoreLevelsPaintTheSame, MoreLevelsHaveTheSameTops};
 ghost use Rattle.painter.specs.Laws.{PipelinePaintsItsList, PipelineHasItsListsTops};
-ghost use Rattle.painter.specs.Laws.{OpaqueSolidHides, TopsAreDrawn, TopsPaintTheScene};
+ghost use Rattle.painter.specs.Laws.{FrameHasRootScroll, OpaqueSolidHides, TopsAreDrawn, TopsPaintTheScene};
 ghost use Rattle.painter.specs.Laws.{RunsHaveOneHome, NeighbouringRunsDiffer, RunsHaveAllTops, SlicesHaveAllTops, SlicesAreFew};
 ghost use Rattle.painter.specs.Laws.{OneHomeIsOneGroup, PictureIsPixel, PictureIsPremultiplied};
 ghost use Rattle.painter.specs.SharedLaws.{EachClipHasAHome, SharedBeginEach, SharedAreSharable, SharedAreMost};
@@ -48,9 +48,10 @@ pub fn paint_laws()
     ensures list_tops { PipelineHasItsListsTops }
 {}
 
-/// What top items are, and what they paint in order. It does nothing.
+/// What top items are, with which scroll frames they move, and what they paint in order. It does nothing.
 pub fn top_laws()
     ensures drawn { TopsAreDrawn }
+    ensures frame { FrameHasRootScroll }
     ensures hidden { OpaqueSolidHides }
     ensures scene { TopsPaintTheScene }
 {}

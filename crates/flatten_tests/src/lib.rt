@@ -1,0 +1,7 @@
+//! The tests of top items as entries, over small scenes.
+#![tactic(auto)]
+
+#[cfg(test)]
+mod flat;
+#[cfg(test)]
+mod stage;

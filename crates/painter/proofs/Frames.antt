@@ -1,0 +1,114 @@
+-- The outermost scroll frame of a node, by its number as a node.
+use Rattle.std.proofs.Common.{◌≡◌, ℕ, zero, suc, ◌<◌, ◌≤◌, List, [], ◌∷◌, ◌++◌, length, get_or, Option, Some, None, refl, sym, ap, ◌∙◌, arith}
+use Rattle.std.specs.Prelude.{slice_get}
+use Rattle.std.specs.Option.{option_or, option_map}
+use Rattle.std.proofs.lemmas.Option.{none-some, slice_get-get_or}
+use Rattle.display_list.specs.declared.node.Node.{Node}
+use Rattle.display_list.specs.Levels.{parent_of}
+use Rattle.spatial_tree.specs.Lineage.{after_ancestors, index_of, lineage, nodes_to}
+use Rattle.spatial_tree.specs.Homes.{scroll_of, first_scroll, root_scroll_of}
+use Rattle.spatial_tree.proofs.Lineages.{lineage-none}
+use Rattle.spatial_tree.proofs.Nodes.{AreOrdered, parent_index, first_scroll-append, first_scroll-one}
+use Rattle.painter.specs.Frames.{own_frame, outer_frame, frame_within, root_frame_of, maybe_scroll, scroll_at}
+use Rattle.painter.specs.Laws.{FrameHasRootScroll}
+
+frame-root : (nodes : List Node) (steps : ℕ) → frame_within nodes steps 0 ≡ None
+frame-root nodes zero = refl
+frame-root nodes (suc steps) = refl
+
+-- ---- what is found is a scroll frame
+
+-- the node with this number is a scroll frame
+abbrev HasScroll : List Node → ℕ → Type 0
+HasScroll nodes frame = (sid : ℕ) × (scroll_at nodes (Some frame) ≡ Some sid)
+
+own_scroll : (nodes : List Node) (k frame : ℕ) (n : Node) (o : Option ℕ) → slice_get nodes k ≡ Some n → scroll_of n ≡ o → option_map (λ sid. suc k) o ≡ Some frame → HasScroll nodes frame
+own_scroll nodes k frame n None e f g = absurd (none-some frame g)
+own_scroll nodes k frame n (Some sid) e f g =
+    let same : suc k ≡ frame = cc in
+    (sid, ap (λ (m : ℕ). scroll_at nodes (Some m)) (sym same) ∙ ap maybe_scroll e ∙ f)
+
+mutual
+  outer_scroll : (nodes : List Node) (steps k frame : ℕ) (o : Option Node) → slice_get nodes k ≡ o → outer_frame (frame_within nodes steps) (suc k) o ≡ Some frame → HasScroll nodes frame
+  outer_scroll nodes steps k frame None e f = absurd (none-some frame f)
+  outer_scroll nodes steps k frame (Some n) e f = either_scroll nodes steps k frame n (frame_within nodes steps (parent_of n)) e refl f
+
+  either_scroll : (nodes : List Node) (steps k frame : ℕ) (n : Node) (above : Option ℕ) → slice_get nodes k ≡ Some n → frame_within nodes steps (parent_of n) ≡ above
+      → option_or above (own_frame (suc k) n) ≡ Some frame → HasScroll nodes frame
+  either_scroll nodes steps k frame n None e f g = own_scroll nodes k frame n (scroll_of n) e refl g
+  either_scroll nodes steps k frame n (Some found) e f g = frame_scrolls nodes steps (parent_of n) frame (f ∙ g)
+
+  frame_scrolls : (nodes : List Node) (steps node frame : ℕ) → frame_within nodes steps node ≡ Some frame → HasScroll nodes frame
+  frame_scrolls nodes steps zero frame e = absurd (none-some frame (sym (frame-root nodes steps) ∙ e))
+  frame_scrolls nodes zero (suc k) frame e = absurd (none-some frame e)
+  frame_scrolls nodes (suc steps) (suc k) frame e = outer_scroll nodes steps k frame (slice_get nodes k) refl e
+
+-- ---- its scroll number moves the node
+
+own_number : (nodes : List Node) (k : ℕ) (n : Node) (o : Option ℕ) → slice_get nodes k ≡ Some n → scroll_of n ≡ o → scroll_at nodes (option_map (λ sid. suc k) o) ≡ o
+own_number nodes k n None e f = refl
+own_number nodes k n (Some sid) e f = ap maybe_scroll e ∙ f
+
+or_number : (nodes : List Node) (k : ℕ) (n : Node) (above : Option ℕ) → slice_get nodes k ≡ Some n → ((frame : ℕ) → above ≡ Some frame → HasScroll nodes frame)
+    → scroll_at nodes (option_or above (own_frame (suc k) n)) ≡ option_or (scroll_at nodes above) (scroll_of n)
+or_number nodes k n None e is = own_number nodes k n (scroll_of n) e refl
+or_number nodes k n (Some frame) e is = let s = is frame refl in s.1 ∙ ap (λ (o : Option ℕ). option_or o (scroll_of n)) (sym s.1)
+
+mutual
+  number_found : (nodes : List Node) (steps k : ℕ) (o : Option Node) → slice_get nodes k ≡ o
+      → scroll_at nodes (outer_frame (frame_within nodes steps) (suc k) o) ≡ first_scroll (after_ancestors parent_index (lineage parent_index nodes steps) o)
+  number_found nodes steps k None e = refl
+  number_found nodes steps k (Some n) e =
+      let above = lineage parent_index nodes steps (parent_index n) in
+      or_number nodes k n (frame_within nodes steps (parent_of n)) e (λ frame f. frame_scrolls nodes steps (parent_of n) frame f)
+      ∙ ap (λ (o : Option ℕ). option_or o (scroll_of n)) (number_within nodes steps (parent_of n))
+      ∙ ap (option_or (first_scroll above)) (sym (first_scroll-one n))
+      ∙ sym (first_scroll-append above (n ∷ []))
+
+  number_within : (nodes : List Node) (steps node : ℕ) → scroll_at nodes (frame_within nodes steps node) ≡ first_scroll (lineage parent_index nodes steps (index_of node))
+  number_within nodes steps zero = ap (scroll_at nodes) (frame-root nodes steps) ∙ sym (ap first_scroll (lineage-none parent_index nodes steps))
+  number_within nodes zero (suc k) = refl
+  number_within nodes (suc steps) (suc k) = number_found nodes steps k (slice_get nodes k) refl
+
+pub frame_number : FrameHasRootScroll
+unfolding root_frame_of root_scroll_of nodes_to
+frame_number nodes node = number_within nodes (length nodes) node
+
+-- ---- from a node to its parent
+
+-- as many steps as a node's number are enough
+mutual
+  enough_outer : (nodes : List Node) (m n k : ℕ) (o : Option Node) → AreOrdered nodes → k < length nodes → k ≤ m → k ≤ n → slice_get nodes k ≡ o
+      → outer_frame (frame_within nodes m) (suc k) o ≡ outer_frame (frame_within nodes n) (suc k) o
+  enough_outer nodes m n k None ordered w low less e = refl
+  enough_outer nodes m n k (Some x) ordered w low less e =
+      let got : Some (get_or nodes k x) ≡ Some x = sym (slice_get-get_or nodes k x w) ∙ e in
+      let is : get_or nodes k x ≡ x = cc in
+      let before : parent_of (get_or nodes k x) ≤ k = ordered k x w in
+      let up : parent_of x ≤ k = omega (arith, before, ap parent_of is) in
+      ap (λ (f : Option ℕ). option_or f (own_frame (suc k) x)) (enough_steps nodes m n (parent_of x) ordered (omega (arith, up, w)) (omega (arith, up, low)) (omega (arith, up, less)))
+
+  enough_steps : (nodes : List Node) (m n node : ℕ) → AreOrdered nodes → node ≤ length nodes → node ≤ m → node ≤ n → frame_within nodes m node ≡ frame_within nodes n node
+  enough_steps nodes m n zero ordered w low less = frame-root nodes m ∙ sym (frame-root nodes n)
+  enough_steps nodes zero n (suc k) ordered w low less = absurd (omega arith)
+  enough_steps nodes (suc m) zero (suc k) ordered w low less = absurd (omega arith)
+  enough_steps nodes (suc m) (suc n) (suc k) ordered w low less = enough_outer nodes m n k (slice_get nodes k) ordered (omega arith) (omega arith) (omega arith) refl
+
+step_of : (nodes : List Node) (steps k : ℕ) (d : Node) → AreOrdered nodes → length nodes ≡ steps → k < length nodes
+    → frame_within nodes steps (suc k) ≡ option_or (frame_within nodes steps (parent_of (get_or nodes k d))) (own_frame (suc k) (get_or nodes k d))
+step_of nodes zero k d ordered all w = absurd (omega (arith, all, w))
+step_of nodes (suc steps) k d ordered all w =
+    let n = get_or nodes k d in
+    let before : parent_of n ≤ k = ordered k d w in
+    ap (outer_frame (frame_within nodes steps) (suc k)) (slice_get-get_or nodes k d w)
+    ∙ ap (λ (f : Option ℕ). option_or f (own_frame (suc k) n)) (enough_steps nodes steps (suc steps) (parent_of n) ordered (omega (arith, before, w)) (omega (arith, before, w, all)) (omega (arith, before, w, all)))
+
+-- a node's outermost scroll frame is its parent's, or else perhaps itself
+pub root_frame-step : (nodes : List Node) (k : ℕ) (d : Node) → AreOrdered nodes → k < length nodes
+    → root_frame_of nodes (suc k) ≡ option_or (root_frame_of nodes (parent_of (get_or nodes k d))) (own_frame (suc k) (get_or nodes k d))
+unfolding root_frame_of
+root_frame-step nodes k d ordered w = step_of nodes (length nodes) k d ordered refl w
+
+pub root_frame-root : (nodes : List Node) → root_frame_of nodes 0 ≡ None
+unfolding root_frame_of
+root_frame-root nodes = frame-root nodes (length nodes)
