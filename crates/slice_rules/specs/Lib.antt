@@ -1,0 +1,7 @@
+pub mod Homes
+pub mod Runs
+pub mod Keys
+pub mod Shared
+pub mod RunLaws
+pub mod KeyLaws
+pub mod SharedLaws
