@@ -8,7 +8,5 @@ pub mod Unchanged
 pub mod Contexts
 pub mod Levels
 pub mod TopColours
-pub mod Runs
 pub mod Picture
-pub mod CommonClips
 pub mod OutsideShown

@@ -9,13 +9,10 @@ use Rattle.display_list.specs.Trees.{Tree, solid, image, border, text, context, 
 use Rattle.pipelines.specs.Table.{PipelineMap}
 use Rattle.scene_limits.specs.Places.{zero_point}
 use Rattle.spatial_tree.specs.Homes.{root_scroll_of, homes_of}
+use Rattle.slice_rules.specs.Homes.{Home}
 use Rattle.painter.specs.Frames.{root_frame_of}
 use Rattle.painter.specs.PlacedList.{PlacedList, placed_at, node_point, item_rect, first_corner, iframe_clips, is_plain}
 use Rattle.painter.specs.Painter.{ScenePixel, under, paint_tree, paint_pipeline}
-
--- the scroll frame that moves something with all around it, by its pipeline and scroll number, or none
-abbrev pub Home : Type 0
-Home = Option (ℕ × ℕ)
 
 -- What Iframes put around a list: the outermost scroll frame that moves them and where its node is, (0, 0) without one, and
 -- clips, outermost first, with the home of each.
@@ -133,8 +130,8 @@ abbrev pub home_of : TopItem → Home
 home_of t = node_home t.around t.list (node_of t.item)
 
 -- where that home is
-abbrev pub origin_of : TopItem → Point
-origin_of t = node_origin t.around t.list (node_of t.item)
+abbrev pub top_origin : TopItem → Point
+top_origin t = node_origin t.around t.list (node_of t.item)
 
 -- a top item painted over a backdrop
 abbrev pub paint_top : ScenePixel → TopItem → Px → Px
