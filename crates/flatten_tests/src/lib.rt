@@ -2,6 +2,10 @@
 #![tactic(auto)]
 
 #[cfg(test)]
+mod expected;
+#[cfg(test)]
 mod flat;
+#[cfg(test)]
+mod parts;
 #[cfg(test)]
 mod stage;

@@ -1,5 +1,6 @@
 //! A scene on which transactions act one after the other.
 
+use crate::parts::ListBytes;
 use image_store::Gens;
 use scene_state::Scene;
 use std::alloc::{AllocError, Global};
@@ -53,17 +54,23 @@ impl Stage {
         Ok(())
     }
 
-    /// Sets a pipeline's list of these parts, each given as bytes.
-    pub fn set_list(&mut self, pipeline: u8, parts: &[&[u8]]) -> Result<(), AllocError> {
-        let mut list = Vec::new(self.alloc);
-        for part in parts {
-            list.extend_from_slice(part)?;
-        }
-        list.push(0)?;
+    /// Sets a pipeline's list.
+    pub fn set_list(&mut self, pipeline: u8, list: ListBytes) -> Result<(), AllocError> {
+        let bytes = list.finish()?;
         let mut op = Vec::new(self.alloc);
         op.extend_from_slice(&[1, 1, 0, 0, 0])?;
-        op.extend_from_slice(&u32::try_from(list.len()).unwrap_or(0).to_le_bytes())?;
-        op.extend_from_slice(list.as_slice())?;
+        op.extend_from_slice(&u32::try_from(bytes.len()).unwrap_or(0).to_le_bytes())?;
+        op.extend_from_slice(bytes.as_slice())?;
         self.apply(pipeline, op.as_slice())
+    }
+
+    /// Scrolls a scroll frame of a pipeline down.
+    pub fn scroll(&mut self, pipeline: u8, sid: u8, y: u8) -> Result<(), AllocError> {
+        self.apply(pipeline, &[3, sid, 0, 0, 0, 0, 0, y, 0, 0, 0])
+    }
+
+    /// Sets an opacity property of a pipeline.
+    pub fn set_opacity(&mut self, pipeline: u8, id: u8, opacity: u8) -> Result<(), AllocError> {
+        self.apply(pipeline, &[4, 1, id, 0, opacity])
     }
 }

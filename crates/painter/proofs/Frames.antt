@@ -2,7 +2,7 @@
 use Rattle.std.proofs.Common.{◌≡◌, ℕ, zero, suc, ◌<◌, ◌≤◌, List, [], ◌∷◌, ◌++◌, length, get_or, Option, Some, None, refl, sym, ap, ◌∙◌, arith}
 use Rattle.std.specs.Prelude.{slice_get}
 use Rattle.std.specs.Option.{option_or, option_map}
-use Rattle.std.proofs.lemmas.Option.{none-some, slice_get-get_or}
+use Rattle.std.proofs.lemmas.Option.{none-some, slice_get-get_or, slice_get_within}
 use Rattle.display_list.specs.declared.node.Node.{Node}
 use Rattle.display_list.specs.Levels.{parent_of}
 use Rattle.spatial_tree.specs.Lineage.{after_ancestors, index_of, lineage, nodes_to}
@@ -42,6 +42,19 @@ mutual
   frame_scrolls nodes steps zero frame e = absurd (none-some frame (sym (frame-root nodes steps) ∙ e))
   frame_scrolls nodes zero (suc k) frame e = absurd (none-some frame e)
   frame_scrolls nodes (suc steps) (suc k) frame e = outer_scroll nodes steps k frame (slice_get nodes k) refl e
+
+-- so it is a node of the list
+scroll_within : (nodes : List Node) (frame : ℕ) → HasScroll nodes frame → frame ≤ length nodes
+scroll_within nodes zero has = omega arith
+scroll_within nodes (suc k) has = by_node (slice_get nodes k) refl has.1
+  where
+    by_node : (o : Option Node) → slice_get nodes k ≡ o → maybe_scroll o ≡ Some has.0 → suc k ≤ length nodes
+    by_node None e f = absurd (none-some has.0 f)
+    by_node (Some n) e f = let w = slice_get_within nodes k n e in omega (arith, w)
+
+pub frame_found : (nodes : List Node) (node frame : ℕ) → root_frame_of nodes node ≡ Some frame → frame ≤ length nodes
+unfolding root_frame_of
+frame_found nodes node frame e = scroll_within nodes frame (frame_scrolls nodes (length nodes) node frame e)
 
 -- ---- its scroll number moves the node
 

@@ -3,6 +3,7 @@
 ghost use Rattle.std.specs.Prelude.{◌≡◌, ◌≤◌, ◌<◌, ◌+◌, ◌++◌, ◌∷◌, [], length, map, OnOk, IfOk};
 ghost use Rattle.field_forms.specs.Facts.{IsDefined};
 ghost use Rattle.display_list.specs.Trees.{tree_of, trees_of};
+ghost use Rattle.primitives.specs.Tops.{AreTops};
 ghost use Rattle.painter.specs.Facts.{CanPaint, CanPaintAll, Reaches};
 ghost use Rattle.painter.specs.TopItems.{clip_homes, node_home, node_origin, node_of, own_chain, tree_tops, trees_tops, pipeline_tops};
 ghost use Rattle.scene_flatten.specs.Chains.{IsChainTable};
@@ -164,6 +165,7 @@ impl Walk<'_> {
 /// plain contexts and Iframes. Each has its own clips after those of the Iframes around it.
 pub fn tops(alloc: Global, scene: &Scene) -> Result<Sequence<Top>, NoMemory>
     ensures value { IfOk result (λ tops. tops ≡ scene_tops scene.now) }
+    ensures tops { IfOk result (λ tops. AreTops tops) }
 {
     know_scene(scene);
     let walk = Walk {

@@ -1,0 +1,4 @@
+pub mod Paints
+pub mod Wholes
+pub mod Near
+pub mod Flat
