@@ -1,13 +1,14 @@
 //! The top items of a scene.
 
-ghost use Rattle.std.specs.Prelude.{◌≡◌, ◌≤◌, ◌<◌, ◌+◌, ◌++◌, ◌∷◌, [], length, map, OnOk, IfOk};
+ghost use Rattle.std.specs.Prelude.{◌≡◌, ◌≤◌, ◌<◌, ◌+◌, ◌++◌, length, map, OnOk, IfOk};
 ghost use Rattle.field_forms.specs.Facts.{IsDefined};
 ghost use Rattle.display_list.specs.Trees.{tree_of, trees_of};
 ghost use Rattle.primitives.specs.Tops.{AreTops};
 ghost use Rattle.painter.specs.Facts.{CanPaint, CanPaintAll, Reaches};
-ghost use Rattle.painter.specs.TopItems.{clip_homes, node_home, node_origin, node_of, own_chain, tree_tops, trees_tops, pipeline_tops};
+ghost use Rattle.painter.specs.TopItems.{tree_tops, trees_tops, pipeline_tops};
 ghost use Rattle.scene_flatten.specs.Chains.{IsChainTable};
-ghost use Rattle.scene_flatten.specs.Tops.{top_of, scene_tops};
+ghost use Rattle.scene_flatten.specs.Entries.{primitive_kind};
+ghost use Rattle.scene_flatten.specs.Tops.{primitive_tops, scene_tops, top_at, top_of};
 
 use crate::around::{Around, HomePoint};
 use crate::chains::ChainTable;
@@ -15,9 +16,9 @@ use crate::lists::one;
 use crate::placed_list::{PlacedList, placed_list};
 use crate::shown::Walk;
 use containers::Sequence;
-use display_list::{Item, Spot};
+use display_list::Item;
 use painter::{first_corner, stands_around};
-use primitives::{Entry, Kind, Top};
+use primitives::{Entry, Top};
 use scene_state::{Scene, know_scene};
 use std::alloc::Global;
 use wr_geom::{NoMemory, Point};
@@ -36,7 +37,7 @@ impl Walk<'_> {
         requires table { IsChainTable placed.now table.old.items }
         requires node { node < length placed.now.list.nodes + 1 }
         requires chain { IsDefined (length placed.now.list.chains) chain }
-        ensures value { IfOk result (λ top. top ≡ record { scroll = node_home around.now placed.now node; origin = node_origin around.now placed.now node; homes = clip_homes around.now placed.now chain; entries = entries }) }
+        ensures value { IfOk result (λ top. top ≡ top_at around.now placed.now node chain entries) }
         ensures table { OnOk result (IsChainTable placed.now table.new.items) }
     {
         let HomePoint { home, origin } = around.home_point(placed, node);
@@ -57,7 +58,12 @@ impl Walk<'_> {
         placed: &PlacedList<'_>,
         table: &mut ChainTable,
         item: &Item,
-    ) -> Result<(), NoMemory> {
+    ) -> Result<(), NoMemory>
+        requires table { IsChainTable placed.now table.old.items }
+        requires item { CanPaint self.now.pipelines.now placed.now (tree_of item.now) }
+        ensures value { OnOk result (out.new ≡ out.old ++ map (top_of self.now.pipelines.now self.now.store.now) (primitive_tops around.now placed.now (tree_of item.now) (primitive_kind self.now.store.now placed.now (tree_of item.now)))) }
+        ensures table { OnOk result (IsChainTable placed.now table.new.items) }
+    {
         if let Some((spot, kind)) = self.primitive_kind(placed, item)? {
             let (node, chain) = (spot.node, spot.chain);
             let entry = self.primitive(placed, table, around.clips(), spot, kind)?;
