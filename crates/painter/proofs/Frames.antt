@@ -1,14 +1,13 @@
 -- The outermost scroll frame of a node, by its number as a node.
-use Rattle.std.proofs.Common.{◌≡◌, ℕ, zero, suc, ◌<◌, ◌≤◌, List, [], ◌∷◌, ◌++◌, length, get_or, Option, Some, None, refl, sym, ap, ◌∙◌, arith}
+use Rattle.std.proofs.Common.{◌≡◌, ℕ, zero, suc, ◌<◌, ◌≤◌, List, [], ◌∷◌, ◌++◌, length, get_or, Option, Some, None, refl, sym, ap, subst, ◌∙◌, arith}
 use Rattle.std.specs.Prelude.{slice_get}
 use Rattle.std.specs.Option.{option_or, option_map}
-use Rattle.std.proofs.lemmas.Option.{none-some, slice_get-get_or, slice_get_within}
+use Rattle.std.proofs.lemmas.Option.{none-some, slice_get-get_or, slice_get_within, get_or_from_slice_get}
 use Rattle.display_list.specs.declared.node.Node.{Node}
 use Rattle.display_list.specs.Levels.{parent_of}
 use Rattle.spatial_tree.specs.Lineage.{after_ancestors, index_of, lineage, nodes_to}
 use Rattle.spatial_tree.specs.Homes.{scroll_of, first_scroll, root_scroll_of}
-use Rattle.spatial_tree.proofs.Lineages.{lineage-none}
-use Rattle.spatial_tree.proofs.Nodes.{AreOrdered, parent_index, first_scroll-append, first_scroll-one}
+use Rattle.spatial_tree.proofs.Nodes.{AreOrdered, parent_index, or_assoc}
 use Rattle.painter.specs.Frames.{own_frame, outer_frame, frame_within, root_frame_of, maybe_scroll, scroll_at}
 use Rattle.painter.specs.Laws.{FrameHasRootScroll}
 
@@ -28,20 +27,22 @@ own_scroll nodes k frame n (Some sid) e f g =
     let same : suc k ≡ frame = cc in
     (sid, ap (λ (m : ℕ). scroll_at nodes (Some m)) (sym same) ∙ ap maybe_scroll e ∙ f)
 
-mutual
-  outer_scroll : (nodes : List Node) (steps k frame : ℕ) (o : Option Node) → slice_get nodes k ≡ o → outer_frame (frame_within nodes steps) (suc k) o ≡ Some frame → HasScroll nodes frame
-  outer_scroll nodes steps k frame None e f = absurd (none-some frame f)
-  outer_scroll nodes steps k frame (Some n) e f = either_scroll nodes steps k frame n (frame_within nodes steps (parent_of n)) e refl f
+-- the first that is found above, or else the node itself
+either_scroll : (nodes : List Node) (k frame : ℕ) (n : Node) (above : Option ℕ) → slice_get nodes k ≡ Some n → ((found : ℕ) → above ≡ Some found → HasScroll nodes found)
+    → option_or above (own_frame (suc k) n) ≡ Some frame → HasScroll nodes frame
+either_scroll nodes k frame n None e is g = own_scroll nodes k frame n (scroll_of n) e refl g
+either_scroll nodes k frame n (Some found) e is g = is frame g
 
-  either_scroll : (nodes : List Node) (steps k frame : ℕ) (n : Node) (above : Option ℕ) → slice_get nodes k ≡ Some n → frame_within nodes steps (parent_of n) ≡ above
-      → option_or above (own_frame (suc k) n) ≡ Some frame → HasScroll nodes frame
-  either_scroll nodes steps k frame n None e f g = own_scroll nodes k frame n (scroll_of n) e refl g
-  either_scroll nodes steps k frame n (Some found) e f g = frame_scrolls nodes steps (parent_of n) frame (f ∙ g)
+outer_scroll : (nodes : List Node) (k frame : ℕ) (frame_of : ℕ → Option ℕ) (o : Option Node) → slice_get nodes k ≡ o → ((node found : ℕ) → frame_of node ≡ Some found → HasScroll nodes found)
+    → outer_frame frame_of (suc k) o ≡ Some frame → HasScroll nodes frame
+outer_scroll nodes k frame frame_of None e is f = absurd (none-some frame f)
+outer_scroll nodes k frame frame_of (Some n) e is f = either_scroll nodes k frame n (frame_of (parent_of n)) e (is (parent_of n)) f
 
-  frame_scrolls : (nodes : List Node) (steps node frame : ℕ) → frame_within nodes steps node ≡ Some frame → HasScroll nodes frame
-  frame_scrolls nodes steps zero frame e = absurd (none-some frame (sym (frame-root nodes steps) ∙ e))
-  frame_scrolls nodes zero (suc k) frame e = absurd (none-some frame e)
-  frame_scrolls nodes (suc steps) (suc k) frame e = outer_scroll nodes steps k frame (slice_get nodes k) refl e
+frame_scrolls : (nodes : List Node) (steps node frame : ℕ) → frame_within nodes steps node ≡ Some frame → HasScroll nodes frame
+frame_scrolls nodes zero zero frame e = absurd (none-some frame e)
+frame_scrolls nodes (suc steps) zero frame e = absurd (none-some frame e)
+frame_scrolls nodes zero (suc k) frame e = absurd (none-some frame e)
+frame_scrolls nodes (suc steps) (suc k) frame e = outer_scroll nodes k frame (frame_within nodes steps) (slice_get nodes k) refl (λ node found f. frame_scrolls nodes steps node found f) e
 
 -- so it is a node of the list
 scroll_within : (nodes : List Node) (frame : ℕ) → HasScroll nodes frame → frame ≤ length nodes
@@ -67,21 +68,31 @@ or_number : (nodes : List Node) (k : ℕ) (n : Node) (above : Option ℕ) → sl
 or_number nodes k n None e is = own_number nodes k n (scroll_of n) e refl
 or_number nodes k n (Some frame) e is = let s = is frame refl in s.1 ∙ ap (λ (o : Option ℕ). option_or o (scroll_of n)) (sym s.1)
 
-mutual
-  number_found : (nodes : List Node) (steps k : ℕ) (o : Option Node) → slice_get nodes k ≡ o
-      → scroll_at nodes (outer_frame (frame_within nodes steps) (suc k) o) ≡ first_scroll (after_ancestors parent_index (lineage parent_index nodes steps) o)
-  number_found nodes steps k None e = refl
-  number_found nodes steps k (Some n) e =
-      let above = lineage parent_index nodes steps (parent_index n) in
-      or_number nodes k n (frame_within nodes steps (parent_of n)) e (λ frame f. frame_scrolls nodes steps (parent_of n) frame f)
-      ∙ ap (λ (o : Option ℕ). option_or o (scroll_of n)) (number_within nodes steps (parent_of n))
-      ∙ ap (option_or (first_scroll above)) (sym (first_scroll-one n))
-      ∙ sym (first_scroll-append above (n ∷ []))
+-- the scroll numbers on a way that goes on
+or_assoc_scroll : (ns ms : List Node) → first_scroll (ns ++ ms) ≡ option_or (first_scroll ns) (first_scroll ms)
+or_assoc_scroll [] ms = refl
+or_assoc_scroll (n ∷ ns) ms = ap (option_or (scroll_of n)) (or_assoc_scroll ns ms) ∙ sym (or_assoc (scroll_of n) (first_scroll ns) (first_scroll ms))
 
-  number_within : (nodes : List Node) (steps node : ℕ) → scroll_at nodes (frame_within nodes steps node) ≡ first_scroll (lineage parent_index nodes steps (index_of node))
-  number_within nodes steps zero = ap (scroll_at nodes) (frame-root nodes steps) ∙ sym (ap first_scroll (lineage-none parent_index nodes steps))
-  number_within nodes zero (suc k) = refl
-  number_within nodes (suc steps) (suc k) = number_found nodes steps k (slice_get nodes k) refl
+or_none : (o : Option ℕ) → option_or o None ≡ o
+or_none None = refl
+or_none (Some k) = refl
+
+number_found : (nodes : List Node) (k : ℕ) (frame_of : ℕ → Option ℕ) (above : Option ℕ → List Node) (o : Option Node) → slice_get nodes k ≡ o
+    → ((node found : ℕ) → frame_of node ≡ Some found → HasScroll nodes found) → ((node : ℕ) → scroll_at nodes (frame_of node) ≡ first_scroll (above (index_of node)))
+    → scroll_at nodes (outer_frame frame_of (suc k) o) ≡ first_scroll (after_ancestors parent_index above o)
+number_found nodes k frame_of above None e is same = refl
+number_found nodes k frame_of above (Some n) e is same =
+    or_number nodes k n (frame_of (parent_of n)) e (is (parent_of n))
+    ∙ ap (λ (o : Option ℕ). option_or o (scroll_of n)) (same (parent_of n))
+    ∙ ap (option_or (first_scroll (above (parent_index n)))) (sym (or_none (scroll_of n)))
+    ∙ sym (or_assoc_scroll (above (parent_index n)) (n ∷ []))
+
+number_within : (nodes : List Node) (steps node : ℕ) → scroll_at nodes (frame_within nodes steps node) ≡ first_scroll (lineage parent_index nodes steps (index_of node))
+number_within nodes zero zero = refl
+number_within nodes (suc steps) zero = refl
+number_within nodes zero (suc k) = refl
+number_within nodes (suc steps) (suc k) =
+    number_found nodes k (frame_within nodes steps) (lineage parent_index nodes steps) (slice_get nodes k) refl (λ node found f. frame_scrolls nodes steps node found f) (λ node. number_within nodes steps node)
 
 pub frame_number : FrameHasRootScroll
 unfolding root_frame_of root_scroll_of nodes_to
@@ -90,22 +101,21 @@ frame_number nodes node = number_within nodes (length nodes) node
 -- ---- from a node to its parent
 
 -- as many steps as a node's number are enough
-mutual
-  enough_outer : (nodes : List Node) (m n k : ℕ) (o : Option Node) → AreOrdered nodes → k < length nodes → k ≤ m → k ≤ n → slice_get nodes k ≡ o
-      → outer_frame (frame_within nodes m) (suc k) o ≡ outer_frame (frame_within nodes n) (suc k) o
-  enough_outer nodes m n k None ordered w low less e = refl
-  enough_outer nodes m n k (Some x) ordered w low less e =
-      let got : Some (get_or nodes k x) ≡ Some x = sym (slice_get-get_or nodes k x w) ∙ e in
-      let is : get_or nodes k x ≡ x = cc in
-      let before : parent_of (get_or nodes k x) ≤ k = ordered k x w in
-      let up : parent_of x ≤ k = omega (arith, before, ap parent_of is) in
-      ap (λ (f : Option ℕ). option_or f (own_frame (suc k) x)) (enough_steps nodes m n (parent_of x) ordered (omega (arith, up, w)) (omega (arith, up, low)) (omega (arith, up, less)))
+enough_outer : (nodes : List Node) (k : ℕ) (f g : ℕ → Option ℕ) (o : Option Node) → AreOrdered nodes → k < length nodes → ((node : ℕ) → node ≤ k → f node ≡ g node) → slice_get nodes k ≡ o
+    → outer_frame f (suc k) o ≡ outer_frame g (suc k) o
+enough_outer nodes k f g None ordered w same e = refl
+enough_outer nodes k f g (Some x) ordered w same e =
+    let is : get_or nodes k x ≡ x = get_or_from_slice_get nodes k x x e in
+    let before : parent_of (get_or nodes k x) ≤ k = ordered k x w in
+    ap (λ (h : Option ℕ). option_or h (own_frame (suc k) x)) (same (parent_of x) (subst (λ (n : Node). parent_of n ≤ k) is before))
 
-  enough_steps : (nodes : List Node) (m n node : ℕ) → AreOrdered nodes → node ≤ length nodes → node ≤ m → node ≤ n → frame_within nodes m node ≡ frame_within nodes n node
-  enough_steps nodes m n zero ordered w low less = frame-root nodes m ∙ sym (frame-root nodes n)
-  enough_steps nodes zero n (suc k) ordered w low less = absurd (omega arith)
-  enough_steps nodes (suc m) zero (suc k) ordered w low less = absurd (omega arith)
-  enough_steps nodes (suc m) (suc n) (suc k) ordered w low less = enough_outer nodes m n k (slice_get nodes k) ordered (omega arith) (omega arith) (omega arith) refl
+enough_steps : (nodes : List Node) (m n node : ℕ) → AreOrdered nodes → node ≤ length nodes → node ≤ m → node ≤ n → frame_within nodes m node ≡ frame_within nodes n node
+enough_steps nodes m n zero ordered w low less = frame-root nodes m ∙ sym (frame-root nodes n)
+enough_steps nodes zero n (suc k) ordered w low less = absurd (omega arith)
+enough_steps nodes (suc m) zero (suc k) ordered w low less = absurd (omega arith)
+enough_steps nodes (suc m) (suc n) (suc k) ordered w low less =
+    enough_outer nodes k (frame_within nodes m) (frame_within nodes n) (slice_get nodes k) ordered (omega arith)
+    (λ node le. enough_steps nodes m n node ordered (omega (arith, le)) (omega (arith, le)) (omega (arith, le))) refl
 
 step_of : (nodes : List Node) (steps k : ℕ) (d : Node) → AreOrdered nodes → length nodes ≡ steps → k < length nodes
     → frame_within nodes steps (suc k) ≡ option_or (frame_within nodes steps (parent_of (get_or nodes k d))) (own_frame (suc k) (get_or nodes k d))

@@ -6,12 +6,14 @@ use Rattle.blend_rules.specs.declared.colour.Px.{Px}
 use Rattle.blend_rules.specs.declared.mode.Mode.TheVariants.{Normal}
 use Rattle.blend_rules.specs.Colour.{IsPremultiplied, IsPixel, clear, blended}
 use Rattle.display_list.specs.declared.item.Spot.{Spot}
+use Rattle.display_list.specs.declared.node.Node.{Node}
 use Rattle.display_list.specs.declared.token.Push.{Push}
 use Rattle.display_list.specs.Trees.{Tree, solid, image, border, text, context, iframe, hit_area, Trees, IsTree, AreTrees}
 use Rattle.image_store.specs.StoreModel.{IsStore}
 use Rattle.pipelines.specs.Table.{PipelineMap, pipeline_list, AreByteOpacities, AreFit}
 use Rattle.primitives.specs.PrimitiveModel.{PrimitiveModel}
 use Rattle.scene_limits.specs.Places.{zero_point}
+use Rattle.spatial_tree.specs.Homes.{root_scroll_of}
 use Rattle.slice_rules.specs.Homes.{Home}
 use Rattle.painter.specs.Frames.{root_frame_of, scroll_at}
 use Rattle.painter.specs.PlacedList.{PlacedList, placed_at, item_rect, chain_clips, opacity_of, is_plain}

@@ -4,3 +4,4 @@ pub mod Near
 pub mod Flat
 pub mod Rising
 pub mod Lone
+pub mod Opening

@@ -29,10 +29,8 @@ pub(crate) struct PlacedList<'a> {
 }
 
 impl<'a> Model for PlacedList<'a> {
-    ghost use Rattle.std.specs.Prelude.{◌≡◌};
-    ghost use Rattle.spatial_tree.specs.Offsets.{offsets_of};
     ghost use Rattle.painter.specs.PlacedList.{PlacedList, placed_code};
-    ghost use Rattle.painter.specs.Facts.{IsPlaced};
+    ghost use Rattle.scene_flatten.specs.Facts.{IsNearList, HasPoints};
 
     ghost Value = { PlacedList };
 
@@ -40,8 +38,8 @@ impl<'a> Model for PlacedList<'a> {
 
     ghost view = { λ l. record { pipeline = l.pipeline; list = l.list.now; moves = l.moves.now; origin = l.origin } };
 
-    ghost invariant = { λ l. IsPlaced (record { pipeline = l.pipeline; list = l.list.now; moves = l.moves.now; origin = l.origin })
-        × (l.points.items ≡ offsets_of l.list.now.nodes l.moves.now l.origin) };
+    ghost invariant = { λ l. IsNearList (record { pipeline = l.pipeline; list = l.list.now; moves = l.moves.now; origin = l.origin })
+        × HasPoints (record { pipeline = l.pipeline; list = l.list.now; moves = l.moves.now; origin = l.origin }) l.points.items };
 }
 
 /// A scroll frame of a list: its number as a node, and its scroll number.
