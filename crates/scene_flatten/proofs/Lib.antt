@@ -5,3 +5,5 @@ pub mod Flat
 pub mod Rising
 pub mod Lone
 pub mod Opening
+pub mod Tables
+pub mod Enough

@@ -4,12 +4,12 @@
 
 mod around;
 mod chains;
+mod flatten;
 mod items;
 mod laws;
 mod lists;
 mod placed_list;
 mod shown;
-mod tops;
 
+pub use flatten::tops;
 pub use laws::{entry_laws, flat_laws};
-pub use tops::tops;
