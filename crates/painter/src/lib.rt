@@ -16,4 +16,5 @@ pub use laws::{
     unchanged_laws,
 };
 pub use placed_list::{first_corner, stands_around};
+pub use shown::glyph_corner;
 pub use tops::picture_at;

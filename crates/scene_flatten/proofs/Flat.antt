@@ -6,7 +6,6 @@ use Rattle.std.proofs.lemmas.Int.{ints}
 use Rattle.std.proofs.lemmas.Option.{none-some}
 use Rattle.std.proofs.lemmas.List.Elements.{All-nil, All-cons, All-head, All-tail, All-append, All-map, All-weaker}
 use Rattle.wr_geom.specs.declared.point.Point.{Point}
-use Rattle.wr_io.specs.declared.fault.Code.{Code}
 use Rattle.clip_masks.specs.declared.clip.Clip.{Clip}
 use Rattle.display_list.specs.declared.item.Spot.{Spot}
 use Rattle.display_list.specs.ListModel.{ListModel}
@@ -106,7 +105,7 @@ levels_near (suc n) ps fit p origin a reach h = list_tops_near ps (tops_in n ps)
 
 -- ---- tops
 
-unbroken : (o : Option Code) (full : Bool) → first_limit o full ≡ None → o ≡ None
+unbroken : (o : _) (full : Bool) → first_limit o full ≡ None → o ≡ None
 unbroken None full e = refl
 unbroken (Some code) full e = absurd (none-some code (sym e))
 

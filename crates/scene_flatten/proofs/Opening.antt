@@ -16,7 +16,7 @@ pub has_near : (ps : PipelineMap) (p : ℕ) (origin : Point) (has : Pipeline) (l
     → Reaches ps p origin → IsNearList (placed p m origin l)
 has_near ps p origin has listed l m fit is some of moves reach =
     let there : pipeline_list ps p ≡ Some l =
-        ap (λ (h : Pipeline). listed_list h.listed) (sym is) ∙ ap listed_list some ∙ ap (λ (x : ListModel). (let o : Option ListModel = Some x in o)) (sym of) in
+    ap (λ (h : Pipeline). listed_list h.listed) (sym is) ∙ ap listed_list some ∙ ap (λ (x : ListModel). (let o : Option ListModel = Some x in o)) (sym of) in
     record { placed = has_placed ps p origin has listed l m fit is some of moves reach; list = (fit.each p l there).list }
 
 pub near_origin : (p : ℕ) (origin : Point) (l : ListModel) (m : MovesModel) → IsNearList (placed p m origin l) → IsOrigin origin

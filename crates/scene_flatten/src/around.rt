@@ -130,12 +130,14 @@ impl Around {
         ensures value { IfOk result (λ homes. homes ≡ clip_homes self.now placed.now chain) }
         ensures table { OnOk result (IsChainTable placed.now table.new.items) }
     {
-        let Some(number) = chain else {
-            return Ok(self.with_scrolls(alloc, placed, &[])?);
-        };
-        placed.resolve(alloc, table, number)?;
-        let scrolls = resolved(table.as_slice(), number).scrolls.as_slice();
-        Ok(self.with_scrolls(alloc, placed, scrolls)?)
+        match chain {
+            None => Ok(self.with_scrolls(alloc, placed, &[])?),
+            Some(number) => {
+                placed.resolve(alloc, table, number)?;
+                let scrolls = resolved(table.as_slice(), number).scrolls.as_slice();
+                Ok(self.with_scrolls(alloc, placed, scrolls)?)
+            }
+        }
     }
 
     /// What is around the items of an Iframe.

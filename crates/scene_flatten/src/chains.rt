@@ -93,12 +93,14 @@ impl PlacedList<'_> {
         ensures value { IfOk result (λ clips. clips ≡ around.now ++ chain_clips self.now chain) }
         ensures table { OnOk result (IsChainTable self.now table.new.items) }
     {
-        let Some(number) = chain else {
-            return Ok(joined(alloc, around, &[])?);
-        };
-        self.resolve(alloc, table, number)?;
-        let clips = resolved(table.as_slice(), number).clips.as_slice();
-        Ok(joined(alloc, around, clips)?)
+        match chain {
+            None => Ok(joined(alloc, around, &[])?),
+            Some(number) => {
+                self.resolve(alloc, table, number)?;
+                let clips = resolved(table.as_slice(), number).clips.as_slice();
+                Ok(joined(alloc, around, clips)?)
+            }
+        }
     }
 
     /// Clips, and then those of an Iframe: its chain's, and its rectangle.
@@ -114,8 +116,8 @@ impl PlacedList<'_> {
         ensures value { IfOk result (λ clips. clips ≡ around.now ++ iframe_clips self.now spot) }
         ensures table { OnOk result (IsChainTable self.now table.new.items) }
     {
-        let rect = Clip::of_rect(self.item_rect(spot));
-        let mut clips = self.clips_after(alloc, table, around, spot.chain)?;
+        let (chain, rect) = (spot.chain, Clip::of_rect(self.item_rect(spot)));
+        let mut clips = self.clips_after(alloc, table, around, chain)?;
         clips.push(rect)?;
         Ok(clips)
     }

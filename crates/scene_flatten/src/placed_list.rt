@@ -5,6 +5,7 @@ ghost use Rattle.std.specs.Option.{option_map};
 ghost use Rattle.display_list.specs.Facts.{IsSpot};
 ghost use Rattle.spatial_tree.specs.Homes.{root_scroll_of, scroll_of};
 ghost use Rattle.spatial_tree.specs.Offsets.{IsWithin};
+ghost use Rattle.pipelines.specs.Table.{AreFit};
 ghost use Rattle.painter.specs.Facts.{Reaches};
 ghost use Rattle.painter.specs.Frames.{root_frame_of, own_frame};
 ghost use Rattle.painter.specs.PlacedList.{bound_opacity, item_rect, node_point, placed_at};
@@ -57,13 +58,15 @@ pub(crate) fn placed_list(
     origin: Point,
 ) -> Result<Option<PlacedList<'_>>, NoMemory>
     requires { Reaches pipelines.now pipeline origin }
-    ensures { IfOk result (λ placed. placed ≡ placed_at pipelines.now pipeline origin) }
+    ensures value { IfOk result (λ placed. placed ≡ placed_at pipelines.now pipeline origin) }
+    ensures fit { AreFit pipelines.now }
 {
     let has = pipelines.get(pipeline);
     let Some(listed) = has.listed() else {
         return Ok(None);
     };
-    let (list, moves) = (listed.list(), has.moves());
+    let list = listed.list();
+    let moves = has.moves();
     let points = offsets(alloc, list, moves, origin)?;
     Ok(Some(PlacedList {
         pipeline,
@@ -95,7 +98,8 @@ impl PlacedList<'_> {
         ensures value { result ≡ node_point self.now node }
         ensures reach { IsWithin (2 ^ 27) result }
     {
-        self.points[node as usize]
+        let points = self.points.as_slice();
+        points[node as usize]
     }
 
     /// Where an item is.

@@ -1,8 +1,11 @@
 //! Primitives: what items show at once.
 
 ghost use Rattle.std.specs.Prelude.{◌≡◌, ◌+◌, ◌^◌, length, map, All, IfOk, IfSome, OnOk};
+ghost use Rattle.std.specs.Option.{option_map};
+ghost use Rattle.blend_rules.specs.Colour.{IsPixel};
 ghost use Rattle.display_list.specs.Facts.{IsGlyph, IsSpot};
 ghost use Rattle.display_list.specs.Trees.{tree_of};
+ghost use Rattle.image_store.specs.StoreModel.{glyph_at, image_at};
 ghost use Rattle.spatial_tree.specs.Offsets.{IsWithin};
 ghost use Rattle.primitives.specs.PrimitiveModel.{IsGlyphUse, IsKind};
 ghost use Rattle.painter.specs.Facts.{CanPaint};
@@ -18,6 +21,7 @@ use clip_masks::Clip;
 use containers::Sequence;
 use display_list::{GlyphAt, Item, Spot};
 use image_store::Store;
+use painter::glyph_corner;
 use pipelines::Pipelines;
 use primitives::{Entry, GlyphUse, Kind, Primitive};
 use std::alloc::{AllocError, Global};
@@ -31,6 +35,26 @@ pub(crate) struct Walk<'a> {
     pub(crate) store: &'a Store,
 }
 
+/// The generation of a glyph's mask, where one is stored.
+fn mask_generation(store: &Store, pipeline: u8, font: u16, glyph: u16) -> Option<u64>
+    ensures { result ≡ option_map (λ m. m.generation) (glyph_at store.now pipeline font glyph) }
+{
+    match store.glyph(pipeline, font, glyph) {
+        None => None,
+        Some(mask) => Some(mask.generation()),
+    }
+}
+
+/// The generation of an image, where one is stored.
+fn image_generation(store: &Store, pipeline: u8, key: u32) -> Option<u64>
+    ensures { result ≡ option_map (λ i. i.generation) (image_at store.now pipeline key) }
+{
+    match store.image(pipeline, key) {
+        None => None,
+        Some(image) => Some(image.generation()),
+    }
+}
+
 /// A glyph where its node puts it, with its mask's generation where one is stored.
 fn glyph_use(store: &Store, pipeline: u8, font: u16, at: Point, g: GlyphAt) -> GlyphUse
     requires glyph { IsGlyph g }
@@ -38,15 +62,12 @@ fn glyph_use(store: &Store, pipeline: u8, font: u16, at: Point, g: GlyphAt) -> G
     ensures value { result ≡ glyph_use store.now pipeline font at g }
     ensures near { IsGlyphUse result }
 {
-    let generation = match store.glyph(pipeline, font, g.glyph) {
-        None => None,
-        Some(mask) => Some(mask.generation()),
-    };
+    let Point { x, y } = glyph_corner(at, g);
     GlyphUse {
         glyph: g.glyph,
-        x: at.x + g.x,
-        y: at.y + g.y,
-        generation,
+        x,
+        y,
+        generation: mask_generation(store, pipeline, font, g.glyph),
     }
 }
 
@@ -77,10 +98,7 @@ impl Walk<'_> {
         ensures { result ≡ image_kind self.now.store.now placed.now key u v }
     {
         let pipeline = placed.pipeline;
-        let generation = match self.store.image(pipeline, key) {
-            None => None,
-            Some(image) => Some(image.generation()),
-        };
+        let generation = image_generation(self.store, pipeline, key);
         Kind::Image {
             pipeline,
             key,
@@ -100,7 +118,7 @@ impl Walk<'_> {
         glyphs: &[GlyphAt],
     ) -> Result<Kind, AllocError>
         requires spot { IsSpot (length placed.now.list.nodes + 1) (length placed.now.list.chains) spot }
-        requires colour { Rattle.blend_rules.specs.Colour.IsPixel colour }
+        requires colour { IsPixel colour }
         requires glyphs { All IsGlyph glyphs.now }
         ensures value { IfOk result (λ kind. kind ≡ text_kind self.now.store.now placed.now spot.node font colour glyphs.now) }
         ensures kind { IfOk result (λ kind. IsKind (item_rect placed.now spot) kind) }

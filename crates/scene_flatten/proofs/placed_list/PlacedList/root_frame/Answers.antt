@@ -3,6 +3,7 @@ use Rattle.std.specs.Option.{option_map}
 use Rattle.spatial_tree.specs.Homes.{root_scroll_of}
 use Rattle.spatial_tree.proofs.Nodes.{AreOrdered, scroll_up, scroll_done}
 use Rattle.painter.specs.Frames.{root_frame_of}
+use Rattle.painter.specs.PlacedList.{PlacedList}
 use Rattle.scene_flatten.specs.declared.placed_list.Frame.{Frame}
 use Rattle.scene_flatten.proofs.Rising.{map_or, frame_up, frame_done}
 use Rattle.scene_flatten.proofs.placed_list.PlacedList.root_frame.Goals as goal
@@ -29,8 +30,10 @@ pub returns-clause-node : goal.returns-clause-node
 returns-clause-node c =
     frame_done c.nodes-nodes.result.now c.args.node c.up.at (option_map node c.up.outermost) c.up-test.false c.up.invariant.1
     ∙ ap (λ ns. root_frame_of ns c.args.node) c.nodes-nodes.ensures.value
+    ∙ ap (λ (l : PlacedList). root_frame_of l.list.nodes c.args.node) c.self.view_is
 
 pub returns-clause-scroll : goal.returns-clause-scroll
 returns-clause-scroll c =
     scroll_done c.nodes-nodes.result.now c.args.node c.up.at (option_map scroll c.up.outermost) c.up-test.false c.up.invariant.2
     ∙ ap (λ ns. root_scroll_of ns c.args.node) c.nodes-nodes.ensures.value
+    ∙ ap (λ (l : PlacedList). root_scroll_of l.list.nodes c.args.node) c.self.view_is
