@@ -7,4 +7,4 @@ pub mod Lone
 pub mod Opening
 pub mod Tables
 pub mod Enough
-pub mod Kinds
+pub mod Fitting

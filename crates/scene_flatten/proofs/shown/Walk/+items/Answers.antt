@@ -63,7 +63,7 @@ add_pipeline-returns-in_ok-table-in-Some t c =
     let store = c.args.self.now.store.now in
     let trees : told c.in-Some.placed.list.items ≡ trees_of c.items-items.result.now = ap (λ (l : PlacedList). told l.list.items) (sym c.placed.view_is) ∙ c.items-items.ensures.trees in
     let whole : pipeline_entries ps store c.args.pipeline c.args.origin c.args.around.now ≡ trees_entries (pipeline_entries ps store) store c.in-Some.placed c.args.around.now (trees_of c.items-items.result.now) =
-        entries_each ps store c.args.pipeline c.args.origin c.args.around.now c.placed_list.ensures.fit
-        ∙ ap (λ (o : Option PlacedList). list_entries (pipeline_entries ps store) store o c.args.around.now) (sym c.in_ok-placed_list.ensures.value ∙ c.in-Some.is)
-        ∙ ap (λ (us : Trees). trees_entries (pipeline_entries ps store) store c.in-Some.placed c.args.around.now us) trees in
+    entries_each ps store c.args.pipeline c.args.origin c.args.around.now c.placed_list.ensures.fit
+    ∙ ap (λ (o : Option PlacedList). list_entries (pipeline_entries ps store) store o c.args.around.now) (sym c.in_ok-placed_list.ensures.value ∙ c.in-Some.is)
+    ∙ ap (λ (us : Trees). trees_entries (pipeline_entries ps store) store c.in-Some.placed c.args.around.now us) trees in
     subst (λ (es : List Entry). OnOk c.add_items.result (c.add_items.new.out ≡ c.args.out.now ++ es)) (sym whole) c.add_items.ensures.value

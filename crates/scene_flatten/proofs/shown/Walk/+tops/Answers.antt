@@ -53,7 +53,7 @@ add_pipeline_tops-returns-in_ok-table-in-Some t c =
     let store = c.args.self.now.store.now in
     let trees : told c.in-Some.placed.list.items ≡ trees_of c.items-items.result.now = ap (λ (l : PlacedList). told l.list.items) (sym c.placed.view_is) ∙ c.items-items.ensures.trees in
     let whole : pipeline_tops ps c.args.pipeline c.args.origin c.args.around.now ≡ trees_tops (pipeline_tops ps) c.args.around.now c.in-Some.placed (trees_of c.items-items.result.now) =
-        tops_each ps c.args.pipeline c.args.origin c.args.around.now c.placed_list.ensures.fit
-        ∙ ap (λ (o : Option PlacedList). list_tops (pipeline_tops ps) o c.args.around.now) (sym c.in_ok-placed_list.ensures.value ∙ c.in-Some.is)
-        ∙ ap (λ (us : Trees). trees_tops (pipeline_tops ps) c.args.around.now c.in-Some.placed us) trees in
+    tops_each ps c.args.pipeline c.args.origin c.args.around.now c.placed_list.ensures.fit
+    ∙ ap (λ (o : Option PlacedList). list_tops (pipeline_tops ps) o c.args.around.now) (sym c.in_ok-placed_list.ensures.value ∙ c.in-Some.is)
+    ∙ ap (λ (us : Trees). trees_tops (pipeline_tops ps) c.args.around.now c.in-Some.placed us) trees in
     subst (λ (ts : List TopItem). OnOk c.add_tops.result (c.add_tops.new.out ≡ c.args.out.now ++ map (top_of ps store) ts)) (sym whole) c.add_tops.ensures.value
