@@ -16,11 +16,15 @@ use Rattle.picture_slices.specs.Values.{run_value, slice_value, runs_over, slice
 
 -- the slices of a picture are what whoever draws them asks
 abbrev pub SlicesAreGood : Type 0
-SlicesAreGood = (view : Bounds) (tops : List Top) → AreTops tops → HaveGoodEntries tops → AreSlices view (picture_slices view tops)
+SlicesAreGood =
+    (view : Bounds) (tops : List Top)
+    → AreTops tops → HaveGoodEntries tops → AreSlices view (picture_slices view tops)
 
 -- their keys are those of the tops' runs
 abbrev pub SlicesHaveTheKeys : Type 0
-SlicesHaveTheKeys = (view : Bounds) (tops : List Top) → map (λ s. s.key) (picture_slices view tops) ≡ slice_keys (top_slices tops)
+SlicesHaveTheKeys =
+    (view : Bounds) (tops : List Top)
+    → map (λ s. s.key) (picture_slices view tops) ≡ slice_keys (top_slices tops)
 
 -- at the points that a slice shows, its entries, in its own coordinates, paint what its tops paint there
 abbrev pub ShownIsWhatTopsPaint : Type 0

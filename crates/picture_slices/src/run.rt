@@ -1,7 +1,6 @@
 //! Tops that follow one another and have one home.
 
-ghost use Rattle.std.specs.Prelude.{◌≡◌, OnErr, IfOk};
-ghost use Rattle.slice_rules.specs.Runs.{Run};
+ghost use Rattle.std.specs.Prelude.{◌≡◌, IfOk};
 ghost use Rattle.picture_slices.specs.Gathered.{alone, with_top, without_home};
 
 use containers::Sequence;

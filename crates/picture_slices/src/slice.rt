@@ -1,7 +1,6 @@
 //! The slices of a picture.
 
 ghost use Rattle.std.specs.Prelude.{◌≡◌, ◌<◌, ◌≤◌, length, map, All, IfOk, OnOk};
-ghost use Rattle.wr_geom.specs.declared.keys.SliceKey.{SliceKey as KeyValue};
 ghost use Rattle.slice_rules.specs.Keys.{key_after, slice_keys};
 ghost use Rattle.picture_slices.specs.Facts.{HaveGoodEntries, AreSlices};
 ghost use Rattle.primitives.specs.Tops.{IsSliceOrigin, AreTops};
@@ -42,7 +41,7 @@ impl TopRun {
         }
     }
 
-    /// It as a slice with a key.
+    /// The slice of its tops, with a key.
     fn slice(self, alloc: Global, key: SliceKey, view: Rect) -> Result<Slice, NoMemory>
         requires { AreTops self.members }
         ensures value { IfOk result (λ s. s ≡ slice_of view key self) }

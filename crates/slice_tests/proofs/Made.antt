@@ -1,6 +1,5 @@
 -- Entries of tops that are made.
-use Rattle.std.proofs.Common.{◌≡◌, ◌<◌, ◌^◌, ℕ, List, [], ◌∷◌, ◌++◌, length, refl, sym, ap, subst, ◌∙◌}
-use Rattle.std.specs.Prelude.{All}
+use Rattle.std.proofs.Common.{◌≡◌, ℕ, List, [], ◌∷◌, ◌++◌, length, sym, ap, subst, ◌∙◌}
 use Rattle.std.proofs.lemmas.List.Elements.{All-nil, All-cons}
 use Rattle.wr_geom.specs.Bounds.{Bounds}
 use Rattle.blend_rules.specs.declared.colour.Px.{Px}
@@ -46,3 +45,12 @@ two_solids es n opacity mode clips d e first second rect small own none all is a
           (All-cons IsCloseEntry (entry.Primitive p) (entry.Primitive q ∷ entry.Pop ∷ []) (record { rect = close; kind = tt; clips = its })
           (All-cons IsCloseEntry (entry.Primitive q) (entry.Pop ∷ []) (record { rect = near; kind = tt; clips = others }) (All-cons IsCloseEntry entry.Pop [] tt (All-nil IsCloseEntry))));
     })
+
+-- four entries that are appended
+pub four : (none one two three all : List Entry) (v w x y : Entry) → none ≡ [] → one ≡ none ++ v ∷ [] → two ≡ one ++ w ∷ [] → three ≡ two ++ x ∷ [] → all ≡ three ++ y ∷ [] → all ≡ v ∷ w ∷ x ∷ y ∷ []
+four none one two three all v w x y a b c d e =
+    e
+    ∙ ap (λ (xs : List Entry). xs ++ y ∷ []) (d ∙ ap (λ (xs : List Entry). xs ++ x ∷ []) (c ∙ ap (λ (xs : List Entry). xs ++ w ∷ []) (b ∙ ap (λ (xs : List Entry). xs ++ v ∷ []) a)))
+
+pub one : (none all : List Entry) (v : Entry) → none ≡ [] → all ≡ none ++ v ∷ [] → all ≡ v ∷ []
+one none all v a b = b ∙ ap (λ (xs : List Entry). xs ++ v ∷ []) a

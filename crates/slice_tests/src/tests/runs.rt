@@ -1,7 +1,9 @@
 //! Runs of one home, their slices and keys.
 
 use super::made::{HALF, Piece, home, origin, slices_of};
-use picture_slices::Slice;
+use picture_slices::{Slice, slice_laws, value_laws};
+use primitives::Top;
+use slice_rules::{key_laws, mapping_laws, run_laws, same_home, shared_laws};
 use std::alloc::{AllocError, Global};
 use std::process::Abort;
 use std::test::Fail;
@@ -86,5 +88,26 @@ fn tops_are_divided_into_slices(rt: HostRuntime) -> Result<(), Fail> {
     for (scrolls, wanted) in &CASES {
         expect(&rt, scrolls, wanted)?;
     }
+    Ok(())
+}
+
+#[test]
+fn homes_are_the_same_by_both_numbers(rt: HostRuntime) -> Result<(), Fail> {
+    let home = Some((1, 2));
+    assert!(rt; same_home(None, None) && same_home(home, home));
+    assert!(rt; !same_home(home, None) && !same_home(None, home));
+    assert!(rt; !same_home(home, Some((1, 3))) && !same_home(home, Some((0, 2))));
+    Ok(())
+}
+
+#[test]
+fn laws_hold_of_tops(rt: HostRuntime) -> Result<(), Fail> {
+    run_laws::<Top>();
+    key_laws::<Top>();
+    shared_laws::<Top>();
+    mapping_laws::<Top, Slice>();
+    slice_laws();
+    value_laws();
+    assert!(rt; same_home(None, None));
     Ok(())
 }
