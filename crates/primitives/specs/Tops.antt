@@ -27,8 +27,7 @@ top_entries (t ∷ ts) = t.entries ++ top_entries ts
 -- one primitive, or one group from its Push to its Pop
 pub data IsWhole : List Entry → Type 0 where
   primitive : (p : PrimitiveModel) → IsWhole (entry.Primitive p ∷ [])
-  group : (opacity : ℕ) (mode : Mode) (clips : List Clip) (es : List Entry)
-      → IsRow es → IsWhole (entry.Push opacity mode clips ∷ (es ++ (entry.Pop ∷ [])))
+  group : (opacity : ℕ) (mode : Mode) (clips : List Clip) (es : List Entry) → IsRow es → IsWhole (entry.Push opacity mode clips ∷ (es ++ (entry.Pop ∷ [])))
 
 -- ---- how far from the point (0, 0) they are, in pixels
 
