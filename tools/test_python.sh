@@ -12,6 +12,15 @@ NAME=reftest
 . tools/built_program.sh
 words=$(python3 tools/reftest.py --program "$program" --out "$work/pictures" examples/reftest.list) || fail "$words"
 echo "reftest: ok, $(echo "$words" | tail -n 1)"
+NAME=pictures
+for name in dialog modes words nested; do
+    "$program" replay < "examples/$name.wrt" > "$work/$name.wrf" || fail "$name isn't answered"
+    python3 tools/frames_to_png.py "$work/$name.wrf" "$work/$name" > /dev/null || fail "the frames of $name aren't read"
+    for picture in examples/"$name"-*.png; do
+        cmp -s "$picture" "$work/${picture#examples/}" || fail "$picture differs"
+    done
+done
+echo "pictures: ok"
 NAME=loads
 words=$(python3 tools/test_loads.py "$program") || fail "$words"
 echo "loads: ok"
