@@ -1,3 +1,4 @@
+pub mod Frames
 pub mod Enough
 pub mod Reaching
 pub mod Slicing
@@ -7,7 +8,5 @@ pub mod Unchanged
 pub mod Contexts
 pub mod Levels
 pub mod TopColours
-pub mod Runs
 pub mod Picture
-pub mod CommonClips
 pub mod OutsideShown

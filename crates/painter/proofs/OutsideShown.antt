@@ -22,18 +22,22 @@ use Rattle.spatial_tree.specs.Moves.{MovesModel}
 use Rattle.clip_tree.specs.Placed.{placed_clip, placed_clips}
 use Rattle.pipelines.specs.Table.{PipelineMap, pipeline_at, pipeline_list}
 use Rattle.scene_limits.specs.Places.{zero_point}
+use Rattle.slice_rules.specs.Homes.{Home}
+use Rattle.slice_rules.specs.Runs.{joined, slices_of}
+use Rattle.slice_rules.specs.Shared.{HomedClip, shared_clips, shown_rect}
+use Rattle.slice_rules.specs.SharedLaws.{IsClipPrefix, BeginsEach}
+use Rattle.slice_rules.proofs.Runs.{slices_joined}
+use Rattle.slice_rules.proofs.Common.{shared_begin_each}
 use Rattle.painter.specs.PlacedList.{PlacedList, node_point, item_rect, chain_clips, first_corner, is_plain}
 use Rattle.painter.specs.Painter.{ScenePixel, under}
-use Rattle.painter.specs.TopItems.{Home, Around, TopItem, TopLister, nothing_around, home_in, node_home, clip_homes, around_iframe, top_item, tree_tops, trees_tops, list_tops, tops_in, top_items, own_chain, paint_top}
-use Rattle.painter.specs.Slices.{Slice, joined_tops, slices_of, paint_tops, slice_colour}
-use Rattle.painter.specs.Shared.{top_clips, top_homes, HomedClip, homed_clips, shared_clips, shown_rect}
+use Rattle.painter.specs.TopItems.{Around, TopItem, TopLister, nothing_around, home_in, node_home, clip_homes, around_iframe, top_item, tree_tops, trees_tops, list_tops, tops_in, top_items, own_chain, home_of, paint_top}
+use Rattle.painter.specs.Slices.{Slice, paint_tops, slice_colour}
+use Rattle.painter.specs.Shared.{top_clips, top_homes, homed_clips}
 use Rattle.painter.specs.Laws.{IsScenePixel, IsTopItem}
-use Rattle.painter.specs.SharedLaws.{IsClipPrefix, BeginsEach, EachClipHasAHome, ClearOutsideShown}
+use Rattle.painter.specs.SharedLaws.{EachClipHasAHome, ClearOutsideShown}
 use Rattle.painter.proofs.Enough.{placed}
 use Rattle.painter.proofs.Unchanged.{clipped_away}
-use Rattle.painter.proofs.Runs.{slices_joined}
 use Rattle.painter.proofs.Picture.{tops_drawn, all_split}
-use Rattle.painter.proofs.CommonClips.{shared_begin_each}
 
 -- ---- each clip has a home
 
@@ -133,7 +137,7 @@ top_unchanged s t backdrop is top e b =
     clipped_away s t.list t.item (under s t.around.clips 255) backdrop is top.item (sym (chain-append t.around.clips (chain_clips t.list (own_chain t.item)) 255 s.x s.y) ∙ e) b
 
 tops_clear : (s : ScenePixel) (view : Bounds) (first : List HomedClip) (ts : List TopItem) → IsScenePixel s → holds view s.x s.y ≡ true → holds (cut_by view (map (λ (c : HomedClip). c.0) first)) s.x s.y ≡ false
-    → All IsTopItem ts → BeginsEach first ts → paint_tops s ts clear ≡ clear
+    → All IsTopItem ts → BeginsEach homed_clips first ts → paint_tops s ts clear ≡ clear
 tops_clear s view first [] is here out are each = refl
 tops_clear s view first (t ∷ ts) is here out are each =
     let hidden = beside_first s view first t here out (All-head (λ u. IsClipPrefix first (homed_clips u)) t ts each) in
@@ -142,15 +146,15 @@ tops_clear s view first (t ∷ ts) is here out are each =
 
 -- a slice that shows nothing at the pixel
 abbrev IsClearBeside : ScenePixel → Bounds → Slice → Type 0
-IsClearBeside s view slice = holds (shown_rect view slice) s.x s.y ≡ false → slice_colour s slice ≡ clear
+IsClearBeside s view slice = holds (shown_rect homed_clips view slice) s.x s.y ≡ false → slice_colour s slice ≡ clear
 
-slices_clear : (s : ScenePixel) (view : Bounds) (rs : List Slice) → IsScenePixel s → holds view s.x s.y ≡ true → All IsTopItem (joined_tops rs) → All (IsClearBeside s view) rs
+slices_clear : (s : ScenePixel) (view : Bounds) (rs : List Slice) → IsScenePixel s → holds view s.x s.y ≡ true → All IsTopItem (joined rs) → All (IsClearBeside s view) rs
 slices_clear s view [] is here are = All-nil (IsClearBeside s view)
 slices_clear s view (r ∷ rs) is here are =
-    let parts = all_split r.tops (joined_tops rs) are in
-    All-cons (IsClearBeside s view) r rs (λ out. tops_clear s view (shared_clips r) r.tops is here out parts.0 (shared_begin_each r)) (slices_clear s view rs is here parts.1)
+    let parts = all_split r.members (joined rs) are in
+    All-cons (IsClearBeside s view) r rs (λ out. tops_clear s view (shared_clips homed_clips r) r.members is here out parts.0 (shared_begin_each homed_clips r)) (slices_clear s view rs is here parts.1)
 
 pub clear_outside : ClearOutsideShown
 clear_outside s view is here =
     let tops = top_items s.pipelines in
-    slices_clear s view (slices_of tops) is here (subst (All IsTopItem) (sym (slices_joined tops)) (tops_drawn s is))
+    slices_clear s view (slices_of home_of tops) is here (subst (All IsTopItem) (sym (slices_joined home_of tops)) (tops_drawn s is))

@@ -15,14 +15,16 @@ use Rattle.display_list.proofs.TreeFacts.{list_trees}
 use Rattle.spatial_tree.specs.Moves.{MovesModel}
 use Rattle.pipelines.specs.Table.{pipeline_at, pipeline_list, IsListOf, AreByteOpacities}
 use Rattle.scene_limits.specs.Places.{zero_point}
+use Rattle.slice_rules.specs.Homes.{Home, same_home}
+use Rattle.slice_rules.specs.Runs.{before_runs, runs, joined, rest_in_one, slices_of}
+use Rattle.slice_rules.proofs.Runs.{home_self, slices_joined}
 use Rattle.painter.specs.PlacedList.{PlacedList, item_rect, first_corner, is_plain}
 use Rattle.painter.specs.Painter.{ScenePixel, under, paint_pipeline}
-use Rattle.painter.specs.TopItems.{Home, Around, TopItem, TopLister, nothing_around, around_iframe, top_item, tree_tops, trees_tops, list_tops, tops_in, top_items, home_of, paint_top}
-use Rattle.painter.specs.Slices.{Slice, same_home, before_runs, runs, joined_tops, rest_in_one, slices_of, paint_tops, slice_colour, paint_slices, picture_over}
+use Rattle.painter.specs.TopItems.{Around, TopItem, TopLister, nothing_around, around_iframe, top_item, tree_tops, trees_tops, list_tops, tops_in, top_items, home_of, paint_top}
+use Rattle.painter.specs.Slices.{Slice, paint_tops, slice_colour, paint_slices, picture_over}
 use Rattle.painter.specs.Laws.{IsScenePixel, IsTopItem, is_drawn, TopsAreDrawn, PictureIsPixel, PictureIsPremultiplied, OneHomeIsOneGroup}
 use Rattle.painter.proofs.Enough.{placed}
 use Rattle.painter.proofs.Pixels.{item_pixel, pipelines_pixel}
-use Rattle.painter.proofs.Runs.{home_self, slices_joined}
 use Rattle.painter.proofs.TopColours.{tops_paint}
 
 -- ---- top items
@@ -86,18 +88,18 @@ all_split (x ∷ xs) ys are =
     let rest = all_split xs ys (All-tail IsTopItem x (xs ++ ys) are) in
     (All-cons IsTopItem x xs (All-head IsTopItem x (xs ++ ys) are) rest.0, rest.1)
 
-slices_pixel : (s : ScenePixel) (rs : List Slice) (backdrop : Px) → IsScenePixel s → All IsTopItem (joined_tops rs) → IsPixel backdrop → IsPixel (paint_slices s rs backdrop)
+slices_pixel : (s : ScenePixel) (rs : List Slice) (backdrop : Px) → IsScenePixel s → All IsTopItem (joined rs) → IsPixel backdrop → IsPixel (paint_slices s rs backdrop)
 slices_pixel s [] backdrop is are b = b
 slices_pixel s (r ∷ rs) backdrop is are b =
-    let parts = all_split r.tops (joined_tops rs) are in
-    let slice : IsPixel (slice_colour s r) = tops_pixel s r.tops clear is parts.0 clear_is_pixel in
+    let parts = all_split r.members (joined rs) are in
+    let slice : IsPixel (slice_colour s r) = tops_pixel s r.members clear is parts.0 clear_is_pixel in
     slices_pixel s rs (blended Normal (slice_colour s r) backdrop) is parts.1 (blend_is_pixel Normal (slice_colour s r) backdrop slice.byte b.byte)
 
 pub picture_pixel : PictureIsPixel
 unfolding picture_over
 picture_pixel s behind is b =
     let tops = top_items s.pipelines in
-    slices_pixel s (slices_of tops) behind is (subst (All IsTopItem) (sym (slices_joined tops)) (tops_drawn s is)) b
+    slices_pixel s (slices_of home_of tops) behind is (subst (All IsTopItem) (sym (slices_joined home_of tops)) (tops_drawn s is)) b
 
 slices_premultiplied : (s : ScenePixel) (rs : List Slice) (backdrop : Px) → IsPremultiplied backdrop → IsPremultiplied (paint_slices s rs backdrop)
 slices_premultiplied s [] backdrop b = b
@@ -105,25 +107,25 @@ slices_premultiplied s (r ∷ rs) backdrop b = slices_premultiplied s rs (blende
 
 pub picture_premultiplied : PictureIsPremultiplied
 unfolding picture_over
-picture_premultiplied s behind b = slices_premultiplied s (slices_of (top_items s.pipelines)) behind b
+picture_premultiplied s behind b = slices_premultiplied s (slices_of home_of (top_items s.pipelines)) behind b
 
 -- ---- one home
 
 -- the one run of top items of one home
 abbrev run_at : Home → TopItem → List TopItem → List Slice
-run_at h t ts = record { home = h; tops = t ∷ ts } ∷ []
+run_at h t ts = record { home = h; members = t ∷ ts } ∷ []
 
-before_one : (h : Home) (t u : TopItem) (ts : List TopItem) → home_of t ≡ h → before_runs t (run_at h u ts) ≡ run_at h t (u ∷ ts)
+before_one : (h : Home) (t u : TopItem) (ts : List TopItem) → home_of t ≡ h → before_runs home_of t (run_at h u ts) ≡ run_at h t (u ∷ ts)
 before_one h t u ts e =
-    ap (λ (b : Bool). if b then run_at (home_of t) t (u ∷ ts) else record { home = home_of t; tops = t ∷ [] } ∷ run_at h u ts) (ap (λ (g : Home). same_home g h) e ∙ home_self h)
+    ap (λ (b : Bool). if b then run_at (home_of t) t (u ∷ ts) else record { home = home_of t; members = t ∷ [] } ∷ run_at h u ts) (ap (λ (g : Home). same_home g h) e ∙ home_self h)
     ∙ ap (λ (g : Home). run_at g t (u ∷ ts)) e
 
-one_run : (h : Home) (t : TopItem) (ts : List TopItem) → All (λ x. home_of x ≡ h) (t ∷ ts) → runs (t ∷ ts) ≡ run_at h t ts
+one_run : (h : Home) (t : TopItem) (ts : List TopItem) → All (λ x. home_of x ≡ h) (t ∷ ts) → runs home_of (t ∷ ts) ≡ run_at h t ts
 one_run h t [] all = ap (λ (g : Home). run_at g t []) (All-head (λ x. home_of x ≡ h) t [] all)
 one_run h t (u ∷ ts) all =
-    ap (before_runs t) (one_run h u ts (All-tail (λ x. home_of x ≡ h) t (u ∷ ts) all)) ∙ before_one h t u ts (All-head (λ x. home_of x ≡ h) t (u ∷ ts) all)
+    ap (before_runs home_of t) (one_run h u ts (All-tail (λ x. home_of x ≡ h) t (u ∷ ts) all)) ∙ before_one h t u ts (All-head (λ x. home_of x ≡ h) t (u ∷ ts) all)
 
-one_group : (s : ScenePixel) (h : Home) (ts : List TopItem) (behind : Px) → IsPixel behind → All (λ x. home_of x ≡ h) ts → paint_slices s (slices_of ts) behind ≡ blended Normal (paint_tops s ts clear) behind
+one_group : (s : ScenePixel) (h : Home) (ts : List TopItem) (behind : Px) → IsPixel behind → All (λ x. home_of x ≡ h) ts → paint_slices s (slices_of home_of ts) behind ≡ blended Normal (paint_tops s ts clear) behind
 one_group s h [] behind b all = sym (clear_source_leaves Normal behind b.premultiplied b.byte)
 one_group s h (t ∷ ts) behind b all = ap (λ (rs : List Slice). paint_slices s (rest_in_one 7 rs) behind) (one_run h t ts all)
 

@@ -6,16 +6,20 @@ use Rattle.blend_rules.specs.declared.colour.Px.{Px}
 use Rattle.blend_rules.specs.declared.mode.Mode.TheVariants.{Normal}
 use Rattle.blend_rules.specs.Colour.{IsPremultiplied, IsPixel, clear, blended}
 use Rattle.display_list.specs.declared.item.Spot.{Spot}
+use Rattle.display_list.specs.declared.node.Node.{Node}
 use Rattle.display_list.specs.declared.token.Push.{Push}
 use Rattle.display_list.specs.Trees.{Tree, solid, image, border, text, context, iframe, hit_area, Trees, IsTree, AreTrees}
 use Rattle.image_store.specs.StoreModel.{IsStore}
 use Rattle.pipelines.specs.Table.{PipelineMap, pipeline_list, AreByteOpacities, AreFit}
 use Rattle.primitives.specs.PrimitiveModel.{PrimitiveModel}
 use Rattle.scene_limits.specs.Places.{zero_point}
+use Rattle.spatial_tree.specs.Homes.{root_scroll_of}
+use Rattle.slice_rules.specs.Homes.{Home}
+use Rattle.painter.specs.Frames.{root_frame_of, scroll_at}
 use Rattle.painter.specs.PlacedList.{PlacedList, placed_at, item_rect, chain_clips, opacity_of, is_plain}
 use Rattle.painter.specs.Painter.{ScenePixel, ListPainter, under, paint_primitive, paint_tree, paint_trees, paint_list, paint_levels, paint_pipeline}
-use Rattle.painter.specs.TopItems.{Home, Around, TopItem, TopLister, tree_tops, trees_tops, list_tops, tops_in, pipeline_tops, top_items, own_chain, home_of}
-use Rattle.painter.specs.Slices.{Slice, runs, joined_tops, slices_of, paint_tops, picture_over}
+use Rattle.painter.specs.TopItems.{Around, TopItem, TopLister, tree_tops, trees_tops, list_tops, tops_in, pipeline_tops, top_items, own_chain, home_of}
+use Rattle.painter.specs.Slices.{paint_tops, picture_over}
 
 -- ---- what is drawn
 
@@ -201,6 +205,10 @@ pub record IsTopItem (t : TopItem) : Type 0 where
 abbrev pub TopsAreDrawn : Type 0
 TopsAreDrawn = (s : ScenePixel) → IsScenePixel s → All IsTopItem (top_items s.pipelines)
 
+-- the outermost scroll frame of a node has the scroll number that makes the node's home
+abbrev pub FrameHasRootScroll : Type 0
+FrameHasRootScroll = (nodes : List Node) (node : ℕ) → scroll_at nodes (root_frame_of nodes node) ≡ root_scroll_of nodes node
+
 -- an opaque solid over a pixel, of which clips leave all, hides the top items before it
 abbrev pub OpaqueSolidHides : Type 0
 OpaqueSolidHides =
@@ -216,39 +224,6 @@ TopsPaintTheScene =
     (s : ScenePixel) (backdrop : Px)
     → AreFit s.pipelines
     → paint_tops s (top_items s.pipelines) backdrop ≡ paint_pipeline s 0 zero_point 255 backdrop
-
--- ---- slices
-
--- top items of one home, at least one
-pub record IsRun (r : Slice) : Type 0 where
-  pub some : r.tops ≢ []
-  pub home : All (λ t. home_of t ≡ r.home) r.tops
-
--- no two slices side by side have the same home
-abbrev pub NeighboursDiffer : List Slice → Type 0
-NeighboursDiffer [] = Unit {0}
-NeighboursDiffer (r ∷ []) = Unit {0}
-NeighboursDiffer (q ∷ r ∷ rs) = (q.home ≢ r.home) × NeighboursDiffer (r ∷ rs)
-
--- each run has top items of one home
-abbrev pub RunsHaveOneHome : Type 0
-RunsHaveOneHome = (ts : List TopItem) → All IsRun (runs ts)
-
--- runs side by side have different homes
-abbrev pub NeighbouringRunsDiffer : Type 0
-NeighbouringRunsDiffer = (ts : List TopItem) → NeighboursDiffer (runs ts)
-
--- the runs have all top items, in order
-abbrev pub RunsHaveAllTops : Type 0
-RunsHaveAllTops = (ts : List TopItem) → joined_tops (runs ts) ≡ ts
-
--- so have the slices
-abbrev pub SlicesHaveAllTops : Type 0
-SlicesHaveAllTops = (ts : List TopItem) → joined_tops (slices_of ts) ≡ ts
-
--- there are at most eight slices
-abbrev pub SlicesAreFew : Type 0
-SlicesAreFew = (ts : List TopItem) → length (slices_of ts) ≤ 8
 
 -- ---- the picture
 

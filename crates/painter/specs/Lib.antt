@@ -1,3 +1,4 @@
+pub mod Frames
 pub mod PlacedList
 pub mod Painter
 pub mod TopItems

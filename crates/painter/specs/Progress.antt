@@ -4,8 +4,8 @@ use Rattle.blend_rules.specs.declared.colour.Px.{Px}
 use Rattle.blend_rules.specs.declared.mode.Mode.TheVariants.{Normal}
 use Rattle.blend_rules.specs.Colour.{clear, blended}
 use Rattle.painter.specs.Painter.{ScenePixel}
-use Rattle.painter.specs.TopItems.{Home, TopItem, home_of, paint_top}
-use Rattle.painter.specs.Slices.{same_home}
+use Rattle.slice_rules.specs.Homes.{Home, same_home}
+use Rattle.painter.specs.TopItems.{TopItem, home_of, paint_top}
 use Rattle.painter.specs.declared.progress.Progress.{Progress}
 
 -- before the first top item, over the colour behind all

@@ -1,12 +1,10 @@
--- The clips that all top items of a slice share, and the part of a view in which the slice shows.
-use Rattle.std.specs.Prelude.{Bool, ◌&&◌, not, List, [], ◌∷◌, ◌++◌, map, zip, take_while, fold, Some, None, if◌then◌else◌}
-use Rattle.wr_geom.specs.Bounds.{Bounds}
-use Rattle.clip_masks.specs.Clips.{is_rect_clip, same_clip}
-use Rattle.clip_masks.specs.Coverage.{cut_by}
+-- The clips of top items with their homes. Of these, a slice shares some.
+use Rattle.std.specs.Prelude.{List, ◌++◌, zip}
 use Rattle.clip_masks.specs.declared.clip.Clip.{Clip}
+use Rattle.slice_rules.specs.Homes.{Home}
+use Rattle.slice_rules.specs.Shared.{HomedClip}
 use Rattle.painter.specs.PlacedList.{chain_clips}
-use Rattle.painter.specs.TopItems.{Home, TopItem, clip_homes, own_chain}
-use Rattle.painter.specs.Slices.{Slice, same_home}
+use Rattle.painter.specs.TopItems.{TopItem, clip_homes, own_chain}
 
 -- the clips of a top item, outermost first: those around it, and then those of its own chain
 abbrev pub top_clips : TopItem → List Clip
@@ -16,42 +14,6 @@ top_clips t = t.around.clips ++ chain_clips t.list (own_chain t.item)
 abbrev pub top_homes : TopItem → List Home
 top_homes t = clip_homes t.around t.list (own_chain t.item)
 
--- a clip and its home
-abbrev pub HomedClip : Type 0
-HomedClip = Clip × Home
-
 -- the clips of a top item with their homes
 abbrev pub homed_clips : TopItem → List HomedClip
 homed_clips t = zip (top_clips t) (top_homes t)
-
--- whether two clips are the same and have the same home
-abbrev pub same_homed : HomedClip → HomedClip → Bool
-same_homed c d = same_clip c.0 d.0 && same_home c.1 d.1
-
--- the longest list with which both begin
-abbrev pub common_start : List HomedClip → List HomedClip → List HomedClip
-common_start [] ds = []
-common_start (c ∷ cs) [] = []
-common_start (c ∷ cs) (d ∷ ds) = if same_homed c d then c ∷ common_start cs ds else []
-
--- the longest list with which the clips of every top item begin
-abbrev pub common_clips : List TopItem → List HomedClip
-common_clips [] = []
-common_clips (t ∷ ts) = fold (λ common u. common_start common (homed_clips u)) (homed_clips t) ts
-
--- whether a slice of this home may share a clip: a rectangle clip of another home
-abbrev pub may_share : Home → HomedClip → Bool
-may_share home c = is_rect_clip c.0 && not (same_home c.1 home)
-
--- of common clips, those that a slice of this home shares: without a home none, else those before the first that it may not share
-abbrev pub shared_of : Home → List HomedClip → List HomedClip
-shared_of None common = []
-shared_of (Some h) common = take_while (may_share (Some h)) common
-
--- the clips that a slice shares, with their homes
-abbrev pub shared_clips : Slice → List HomedClip
-shared_clips slice = shared_of slice.home (common_clips slice.tops)
-
--- the part of a view that the shared clips leave
-abbrev pub shown_rect : Bounds → Slice → Bounds
-shown_rect view slice = cut_by view (map (λ c. c.0) (shared_clips slice))

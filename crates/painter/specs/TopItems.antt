@@ -9,22 +9,22 @@ use Rattle.display_list.specs.Trees.{Tree, solid, image, border, text, context, 
 use Rattle.pipelines.specs.Table.{PipelineMap}
 use Rattle.scene_limits.specs.Places.{zero_point}
 use Rattle.spatial_tree.specs.Homes.{root_scroll_of, homes_of}
-use Rattle.painter.specs.PlacedList.{PlacedList, placed_at, item_rect, first_corner, iframe_clips, is_plain}
+use Rattle.slice_rules.specs.Homes.{Home}
+use Rattle.painter.specs.Frames.{root_frame_of}
+use Rattle.painter.specs.PlacedList.{PlacedList, placed_at, node_point, item_rect, first_corner, iframe_clips, is_plain}
 use Rattle.painter.specs.Painter.{ScenePixel, under, paint_tree, paint_pipeline}
 
--- the scroll frame that moves something with all around it, by its pipeline and scroll number, or none
-abbrev pub Home : Type 0
-Home = Option (ℕ × ℕ)
-
--- what Iframes put around a list: the outermost scroll frame that moves them, and clips, outermost first, with the home of each
+-- What Iframes put around a list: the outermost scroll frame that moves them and where its node is, (0, 0) without one, and
+-- clips, outermost first, with the home of each.
 pub record Around : Type 0 where
   pub home : Home
+  pub origin : Point
   pub clips : List Clip
   pub homes : List Home
 
 -- nothing is around the root pipeline
 abbrev pub nothing_around : Around
-nothing_around = record { home = None; clips = []; homes = [] }
+nothing_around = record { home = None; origin = zero_point; clips = []; homes = [] }
 
 -- the home of a scroll number of the list, where nothing around moves it
 abbrev pub home_in : Around → PlacedList → Option ℕ → Home
@@ -34,6 +34,20 @@ home_in a l scroll = option_or a.home (option_map (λ sid. (l.pipeline, sid)) sc
 abbrev pub node_home : Around → PlacedList → ℕ → Home
 node_home a l node = home_in a l (root_scroll_of l.list.nodes node)
 
+-- where a scroll frame of the list is, by its number as a node; (0, 0) without one
+abbrev pub frame_point : PlacedList → Option ℕ → Point
+frame_point l None = zero_point
+frame_point l (Some frame) = node_point l frame
+
+-- where a home is: around the list, or else in it
+abbrev pub origin_by : Home → Point → Point → Point
+origin_by None around own = own
+origin_by (Some home) around own = around
+
+-- where the home of a node is
+abbrev pub node_origin : Around → PlacedList → ℕ → Point
+node_origin a l node = origin_by a.home a.origin (frame_point l (root_frame_of l.list.nodes node))
+
 -- the homes of the clips of a chain, after those of the clips around
 abbrev pub clip_homes : Around → PlacedList → Option ℕ → List Home
 clip_homes a l chain = a.homes ++ map (home_in a l) (homes_of l.list chain)
@@ -42,6 +56,7 @@ clip_homes a l chain = a.homes ++ map (home_in a l) (homes_of l.list chain)
 abbrev pub around_iframe : Around → PlacedList → Spot → Around
 around_iframe a l spot = record {
   home = node_home a l spot.node;
+  origin = node_origin a l spot.node;
   clips = a.clips ++ iframe_clips l spot;
   homes = clip_homes a l spot.chain ++ node_home a l spot.node ∷ [];
 }
@@ -113,6 +128,10 @@ own_chain (hit_area spot tag) = spot.chain
 -- the home of a top item
 abbrev pub home_of : TopItem → Home
 home_of t = node_home t.around t.list (node_of t.item)
+
+-- where that home is
+abbrev pub top_origin : TopItem → Point
+top_origin t = node_origin t.around t.list (node_of t.item)
 
 -- a top item painted over a backdrop
 abbrev pub paint_top : ScenePixel → TopItem → Px → Px

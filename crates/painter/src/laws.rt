@@ -7,11 +7,13 @@ ghost use Rattle.painter.specs.Laws.{EmptyIframePaintsNothing, EmptyIframeHasNoT
 ghost use Rattle.painter.specs.Laws.{PlainContextPaintsItems, PlainContextHasTheirTops, GroupOnClearIsItsItems};
 ghost use Rattle.painter.specs.Laws.{MoreLevelsPaintTheSame, MoreLevelsHaveTheSameTops};
 ghost use Rattle.painter.specs.Laws.{PipelinePaintsItsList, PipelineHasItsListsTops};
-ghost use Rattle.painter.specs.Laws.{OpaqueSolidHides, TopsAreDrawn, TopsPaintTheScene};
-ghost use Rattle.painter.specs.Laws.{RunsHaveOneHome, NeighbouringRunsDiffer, RunsHaveAllTops, SlicesHaveAllTops, SlicesAreFew};
+ghost use Rattle.painter.specs.Laws.{FrameHasRootScroll, OpaqueSolidHides, TopsAreDrawn, TopsPaintTheScene};
 ghost use Rattle.painter.specs.Laws.{OneHomeIsOneGroup, PictureIsPixel, PictureIsPremultiplied};
-ghost use Rattle.painter.specs.SharedLaws.{EachClipHasAHome, SharedBeginEach, SharedAreSharable, SharedAreMost};
-ghost use Rattle.painter.specs.SharedLaws.{HomelessShareNone, SlicesHaveTops, ClearOutsideShown};
+ghost use Rattle.painter.specs.SharedLaws.{EachClipHasAHome, ClearOutsideShown};
+ghost use Rattle.painter.specs.TopItems.{TopItem};
+ghost use Rattle.slice_rules.specs.RunLaws.{RunsHaveOneHome, NeighbouringRunsDiffer, RunsHaveAll};
+ghost use Rattle.slice_rules.specs.RunLaws.{SlicesHaveAll, SlicesAreFew, SlicesHaveMembers};
+ghost use Rattle.slice_rules.specs.SharedLaws.{SharedBeginEach, SharedAreSharable, SharedAreMost, HomelessShareNone};
 
 /// What is painted over a pixel is a pixel, and premultiplied over any premultiplied colour. It does nothing.
 pub fn pixel_laws()
@@ -48,9 +50,10 @@ pub fn paint_laws()
     ensures list_tops { PipelineHasItsListsTops }
 {}
 
-/// What top items are, and what they paint in order. It does nothing.
+/// What top items are, with which scroll frames they move, and what they paint in order. It does nothing.
 pub fn top_laws()
     ensures drawn { TopsAreDrawn }
+    ensures frame { FrameHasRootScroll }
     ensures hidden { OpaqueSolidHides }
     ensures scene { TopsPaintTheScene }
 {}
@@ -58,11 +61,11 @@ pub fn top_laws()
 /// Runs and slices have all top items, runs side by side have different homes, and slices are at most
 /// eight. It does nothing.
 pub fn slice_laws()
-    ensures one_home { RunsHaveOneHome }
-    ensures neighbours { NeighbouringRunsDiffer }
-    ensures run_tops { RunsHaveAllTops }
-    ensures slice_tops { SlicesHaveAllTops }
-    ensures few { SlicesAreFew }
+    ensures one_home { RunsHaveOneHome TopItem }
+    ensures neighbours { NeighbouringRunsDiffer TopItem }
+    ensures run_tops { RunsHaveAll TopItem }
+    ensures slice_tops { SlicesHaveAll TopItem }
+    ensures few { SlicesAreFew TopItem }
 {}
 
 /// What the picture is over a colour behind all. It does nothing.
@@ -76,10 +79,10 @@ pub fn picture_laws()
 /// is clear. It does nothing.
 pub fn shared_laws()
     ensures homes { EachClipHasAHome }
-    ensures first { SharedBeginEach }
-    ensures sharable { SharedAreSharable }
-    ensures most { SharedAreMost }
-    ensures homeless { HomelessShareNone }
-    ensures some { SlicesHaveTops }
+    ensures first { SharedBeginEach TopItem }
+    ensures sharable { SharedAreSharable TopItem }
+    ensures most { SharedAreMost TopItem }
+    ensures homeless { HomelessShareNone TopItem }
+    ensures some { SlicesHaveMembers TopItem }
     ensures shown { ClearOutsideShown }
 {}

@@ -15,4 +15,6 @@ pub use laws::{
     context_laws, paint_laws, picture_laws, pixel_laws, shared_laws, slice_laws, top_laws,
     unchanged_laws,
 };
+pub use placed_list::{first_corner, stands_around};
+pub use shown::glyph_corner;
 pub use tops::picture_at;

@@ -73,9 +73,10 @@ impl PlacedList<'_> {
     }
 }
 
-/// Whether a context only stands around its items, and is no group that is drawn by itself.
+/// Whether a context of this opacity, mode, isolation and chain only stands around its items, and is no group
+/// that is drawn by itself. It takes no memory.
 #[tactic(auto, unfolding(crate::specs::PlacedList::stands_around))]
-pub(crate) fn stands_around(opacity: u8, mode: Mode, isolate: bool, chain: Option<u16>) -> bool
+pub fn stands_around(opacity: u8, mode: Mode, isolate: bool, chain: Option<u16>) -> bool
     ensures { result ≡ stands_around opacity mode isolate chain }
 {
     if opacity != 255 || isolate {
@@ -87,8 +88,8 @@ pub(crate) fn stands_around(opacity: u8, mode: Mode, isolate: bool, chain: Optio
     matches!(mode, Mode::Normal)
 }
 
-/// The first corner of a rectangle.
-pub(crate) fn first_corner(rect: Rect) -> Point
+/// The first corner of a rectangle, in pixels. It takes no memory.
+pub fn first_corner(rect: Rect) -> Point
     ensures { result ≡ first_corner rect }
 {
     Point {

@@ -2,14 +2,11 @@
 
 ghost use Rattle.std.specs.Prelude.{◌≡◌};
 ghost use Rattle.blend_rules.specs.Colour.{IsPremultiplied};
-ghost use Rattle.painter.specs.Slices.{same_home};
 ghost use Rattle.painter.specs.Progress.{begin, begins, entered, laid};
 ghost use Rattle.painter.specs.Facts.{IsProgress};
 
 use blend_rules::{Mode, Px, blend};
-
-/// A scroll frame by its pipeline and scroll number, or none.
-pub(crate) type Home = Option<(u8, u16)>;
+use slice_rules::{Home, same_home};
 
 /// How many runs of one home have begun, the home of the last one, the colour of the last slice, and that of
 /// the slices below it.
@@ -23,17 +20,6 @@ pub(crate) struct Progress {
 
 /// How many slices there are at most.
 const MAX_SLICES: u8 = 8;
-
-/// Whether two homes are the same.
-pub(crate) fn same_home(a: Home, b: Home) -> bool
-    ensures { result ≡ same_home a b }
-{
-    match (a, b) {
-        (None, None) => true,
-        (Some(a), Some(b)) => a.0 == b.0 && a.1 == b.1,
-        (None, Some(_)) | (Some(_), None) => false,
-    }
-}
 
 impl Progress {
     /// Before the first top item, over the colour behind all.

@@ -16,8 +16,9 @@ use display_list::{GlyphAt, Spot};
 use primitives::{BorderColours, border_colour, glyph_over, image_colour_at};
 use wr_geom::{Point, Radii, Widths};
 
-/// Where the first corner of a glyph's mask lies, where its item's node is at a point.
-fn glyph_corner(at: Point, g: GlyphAt) -> Point
+/// Where the first corner of a glyph's mask lies, in pixels, where its item's node is at a point. It takes no
+/// memory.
+pub fn glyph_corner(at: Point, g: GlyphAt) -> Point
     requires glyph { IsGlyph g }
     requires reach { IsWithin (2 ^ 27) at }
     ensures { result ≡ record { x = at.x +ℤ g.x; y = at.y +ℤ g.y } }

@@ -14,12 +14,13 @@ ghost use Rattle.painter.specs.TopItems.{Around, around_iframe, node_home, node_
 
 use crate::pixel::ScenePixel;
 use crate::placed_list::{PlacedList, first_corner, stands_around};
-use crate::progress::{Home, Progress};
+use crate::progress::Progress;
 use blend_rules::{Px, know_bytes};
 use display_list::{Item, Spot};
 use image_store::Store;
 use pipelines::Pipelines;
 use scene_limits::limit_laws;
+use slice_rules::Home;
 use wr_geom::Point;
 
 /// What Iframes put around a list, as it is at the pixel: the outermost scroll frame that moves them, and what

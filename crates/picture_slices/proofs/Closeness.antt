@@ -16,7 +16,7 @@ use Rattle.primitives.specs.Clipping.{without_clips}
 use Rattle.primitives.specs.Facts.{IsEntry}
 use Rattle.primitives.specs.Moves.{shifted_entry, CanShiftGlyph, CanShiftKind, CanShiftEntry}
 use Rattle.primitives.proofs.Moves.{kind_stays}
-use Rattle.picture_slices.specs.Fits.{IsWithinPixels, IsSliceOrigin, IsCloseRect, IsCloseGlyph, IsCloseKind, AreCloseClips, IsCloseEntry}
+use Rattle.primitives.specs.Tops.{IsWithinPixels, IsSliceOrigin, IsCloseRect, IsCloseGlyph, IsCloseKind, AreCloseClips, IsCloseEntry}
 use Rattle.picture_slices.specs.Slices.{back_from}
 
 coordinate : (z d : ℤ) → IsWithinPixels (2 ^ 28) z → IsWithinPixels (2 ^ 27) d → IsCoordinate (z +ℤ d)

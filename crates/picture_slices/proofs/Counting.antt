@@ -6,8 +6,8 @@ use Rattle.clip_masks.specs.declared.clip.Clip.{Clip}
 use Rattle.primitives.specs.declared.entry.Top.{Top}
 use Rattle.slice_rules.specs.Homes.{Home}
 use Rattle.slice_rules.specs.Shared.{HomedClip, same_homed}
-use Rattle.picture_slices.specs.TopClips.{first_clips, clips_of_top}
-use Rattle.picture_slices.specs.Fits.{IsTop}
+use Rattle.picture_slices.specs.TopClips.{clips_of_top}
+use Rattle.primitives.specs.Tops.{IsTop, first_clips}
 use Rattle.picture_slices.proofs.Sharing.{top_at, top_count}
 
 -- the clip and the home that are read at an index of a top

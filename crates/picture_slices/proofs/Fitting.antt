@@ -25,8 +25,8 @@ use Rattle.slice_rules.proofs.Keys.{keys_distinct}
 use Rattle.slice_rules.proofs.Runs.{slices_few}
 use Rattle.picture_slices.specs.TopClips.{home_of_top, clips_of_top}
 use Rattle.picture_slices.specs.Facts.{HaveGoodEntries, IsSlice}
-use Rattle.picture_slices.specs.Fits.{IsWhole, IsWithinPixels, IsSliceOrigin, IsCloseEntry, IsTop, AreTops}
-use Rattle.picture_slices.specs.Fits as whole
+use Rattle.primitives.specs.Tops.{IsWhole, IsWithinPixels, IsSliceOrigin, IsCloseEntry, IsTop, AreTops}
+use Rattle.primitives.specs.Tops as whole
 use Rattle.picture_slices.specs.Slices.{first_without, entries_without, origin_of, back_from, slice_of, keyed_slices, top_slices}
 use Rattle.picture_slices.specs.Laws.{SlicesAreGood}
 use Rattle.picture_slices.proofs.Closeness.{close_without, good_without, good_moved, back_is_origin}

@@ -18,7 +18,7 @@ use Rattle.slice_rules.proofs.Keys.{each_key, key_homes}
 use Rattle.slice_rules.proofs.Runs.{slices_joined}
 use Rattle.picture_slices.specs.TopClips.{home_of_top}
 use Rattle.picture_slices.specs.Facts.{HaveGoodEntries}
-use Rattle.picture_slices.specs.Fits.{IsTop, AreTops}
+use Rattle.primitives.specs.Tops.{IsTop, AreTops}
 use Rattle.picture_slices.specs.Slices.{slice_of, keyed_slices, top_slices}
 use Rattle.picture_slices.specs.Values.{slices_over, runs_over}
 use Rattle.picture_slices.specs.Laws.{SlicesHaveTheKeys, SlicesPaintTheTops}

@@ -9,7 +9,7 @@ use Rattle.primitives.specs.declared.entry.Top.{Top}
 use Rattle.primitives.specs.Clipping.{without_clips}
 use Rattle.primitives.specs.Facts.{IsEntry}
 use Rattle.primitives.specs.Moves.{shifted_entry, shifted_entries}
-use Rattle.picture_slices.specs.Fits.{IsCloseEntry}
+use Rattle.primitives.specs.Tops.{IsCloseEntry}
 use Rattle.picture_slices.specs.Slices.{first_without, entries_without}
 
 -- after the first entry, with the others moved, all are

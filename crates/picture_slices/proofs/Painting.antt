@@ -29,11 +29,11 @@ use Rattle.primitives.proofs.Runs.{runs_in_parts, full_clips_do_nothing, balance
 use Rattle.slice_rules.specs.Runs.{Run}
 use Rattle.slice_rules.specs.Shared.{HomedClip, shared_clips}
 use Rattle.slice_rules.proofs.Common.{shared_begin_each, shared_sharable}
-use Rattle.picture_slices.specs.TopClips.{first_clips, clips_of_top}
+use Rattle.picture_slices.specs.TopClips.{clips_of_top}
 use Rattle.picture_slices.specs.Facts.{HaveGoodEntries}
-use Rattle.picture_slices.specs.Fits.{IsWhole, IsTop, AreTops}
-use Rattle.picture_slices.specs.Fits as whole
-use Rattle.picture_slices.specs.Slices.{top_entries, first_without, entries_without, origin_of, back_from, slice_of}
+use Rattle.primitives.specs.Tops.{IsWhole, IsTop, AreTops, first_clips, top_entries}
+use Rattle.primitives.specs.Tops as whole
+use Rattle.picture_slices.specs.Slices.{first_without, entries_without, origin_of, back_from, slice_of}
 use Rattle.picture_slices.specs.Values.{slice_value, run_value}
 use Rattle.picture_slices.specs.Laws.{ShownIsWhatTopsPaint, TopsPaintNothingElse, SlicePaintsItsTops}
 use Rattle.picture_slices.proofs.Sharing.{begins_top}

@@ -15,9 +15,9 @@ use Rattle.slice_rules.specs.Runs.{Run}
 use Rattle.slice_rules.specs.Shared.{HomedClip, same_homed, common_start, common_clips, shared_of, shared_clips, shown_rect}
 use Rattle.slice_rules.specs.SharedLaws.{IsClipPrefix}
 use Rattle.slice_rules.proofs.Common.{common_from, shared_begin_each}
-use Rattle.picture_slices.specs.TopClips.{first_clips, clips_of_top}
+use Rattle.picture_slices.specs.TopClips.{clips_of_top}
 use Rattle.picture_slices.specs.CommonCount.{common_count}
-use Rattle.picture_slices.specs.Fits.{IsTop, AreTops}
+use Rattle.primitives.specs.Tops.{IsTop, AreTops, first_clips}
 
 -- ---- clips with their homes
 

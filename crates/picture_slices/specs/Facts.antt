@@ -4,7 +4,7 @@ use Rattle.wr_geom.specs.Bounds.{Bounds, Covers}
 use Rattle.primitives.specs.declared.entry.Top.{Top}
 use Rattle.primitives.specs.Facts.{IsEntry}
 use Rattle.primitives.specs.Stacks.{balanced, IsRow}
-use Rattle.picture_slices.specs.Fits.{IsSliceOrigin}
+use Rattle.primitives.specs.Tops.{IsSliceOrigin}
 use Rattle.picture_slices.specs.declared.slice.Slice.{Slice}
 
 -- each entry of each of these tops is good

@@ -10,7 +10,7 @@ use Rattle.primitives.specs.Stacks.{value_at}
 use Rattle.slice_rules.specs.Runs.{Run}
 use Rattle.slice_rules.specs.Keys.{slice_keys}
 use Rattle.picture_slices.specs.Facts.{HaveGoodEntries, AreSlices}
-use Rattle.picture_slices.specs.Fits.{AreTops}
+use Rattle.primitives.specs.Tops.{AreTops}
 use Rattle.picture_slices.specs.Slices.{slice_of, top_slices, picture_slices}
 use Rattle.picture_slices.specs.Values.{run_value, slice_value, runs_over, slices_over}
 

@@ -1,5 +1,4 @@
 pub mod TopClips
-pub mod Fits
 pub mod Gathered
 pub mod CommonCount
 pub mod Slices

@@ -14,11 +14,6 @@ use Rattle.slice_rules.specs.Shared.{shared_clips, shown_rect}
 use Rattle.picture_slices.specs.TopClips.{home_of_top, clips_of_top}
 use Rattle.picture_slices.specs.declared.slice.Slice.{Slice}
 
--- the entries of tops, one after another
-abbrev pub top_entries : List Top → List Entry
-top_entries [] = []
-top_entries (t ∷ ts) = t.entries ++ top_entries ts
-
 -- entries, of which the first one loses its first n clips
 abbrev pub first_without : ℕ → List Entry → List Entry
 first_without n [] = []

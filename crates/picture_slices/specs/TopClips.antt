@@ -1,20 +1,13 @@
 -- The home and the clips of a top.
-use Rattle.std.specs.Prelude.{List, [], ◌∷◌, zip}
-use Rattle.clip_masks.specs.declared.clip.Clip.{Clip}
-use Rattle.primitives.specs.declared.entry.Entry.{Entry}
+use Rattle.std.specs.Prelude.{List, zip}
 use Rattle.primitives.specs.declared.entry.Top.{Top}
-use Rattle.primitives.specs.Clipping.{entry_clips}
+use Rattle.primitives.specs.Tops.{first_clips}
 use Rattle.slice_rules.specs.Homes.{Home}
 use Rattle.slice_rules.specs.Shared.{HomedClip}
 
 -- the home of a top
 abbrev pub home_of_top : Top → Home
 home_of_top t = t.scroll
-
--- the clips of the first of some entries: of the primitive, or of the Push of the group
-abbrev pub first_clips : List Entry → List Clip
-first_clips [] = []
-first_clips (e ∷ es) = entry_clips e
 
 -- the clips of a top with their homes
 abbrev pub clips_of_top : Top → List HomedClip

@@ -1,5 +1,6 @@
 -- What slices paint at a point of the view.
 use Rattle.std.specs.Prelude.{ℤ, ◌-ℤ◌, List, fold, if◌then◌else◌}
+use Rattle.primitives.specs.Tops.{top_entries}
 use Rattle.wr_geom.specs.Bounds.{holds}
 use Rattle.blend_rules.specs.declared.colour.Px.{Px}
 use Rattle.blend_rules.specs.declared.mode.Mode.TheVariants.{Normal}
@@ -8,7 +9,6 @@ use Rattle.image_store.specs.StoreModel.{StoreModel}
 use Rattle.primitives.specs.declared.entry.Top.{Top}
 use Rattle.primitives.specs.Stacks.{value_at}
 use Rattle.slice_rules.specs.Runs.{Run}
-use Rattle.picture_slices.specs.Slices.{top_entries}
 use Rattle.picture_slices.specs.declared.slice.Slice.{Slice}
 
 -- the tops of a run, painted in order on clear

@@ -6,9 +6,8 @@ ghost use Rattle.primitives.specs.declared.entry.Top.{Top as TopValue};
 ghost use Rattle.primitives.specs.Facts.{IsEntry};
 ghost use Rattle.primitives.specs.Moves.{shifted_entry, shifted_entries};
 ghost use Rattle.picture_slices.specs.Facts.{HaveGoodEntries};
-ghost use Rattle.picture_slices.specs.Fits.{IsCloseEntry, IsSliceOrigin, IsTop, AreTops};
+ghost use Rattle.primitives.specs.Tops.{IsCloseEntry, IsSliceOrigin, IsTop, AreTops, first_clips};
 ghost use Rattle.picture_slices.specs.Slices.{back_from, first_without, entries_without};
-ghost use Rattle.picture_slices.specs.TopClips.{first_clips};
 
 use containers::Sequence;
 use primitives::{Entry, Top, know_entry};

@@ -4,8 +4,8 @@ ghost use Rattle.std.specs.Prelude.{◌≡◌, ◌≤◌, length, min, take_whil
 ghost use Rattle.std.specs.List.{prefix_len, common_prefix_len};
 ghost use Rattle.slice_rules.specs.Shared.{same_homed, common_clips, may_share, shared_clips, shown_rect};
 ghost use Rattle.picture_slices.specs.CommonCount.{common_count};
-ghost use Rattle.picture_slices.specs.Fits.{IsTop, AreTops};
-ghost use Rattle.picture_slices.specs.TopClips.{first_clips, clips_of_top};
+ghost use Rattle.primitives.specs.Tops.{IsTop, AreTops, first_clips};
+ghost use Rattle.picture_slices.specs.TopClips.{clips_of_top};
 
 use crate::run::TopRun;
 use clip_masks::{Clip, cut};

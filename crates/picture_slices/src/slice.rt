@@ -3,7 +3,7 @@
 ghost use Rattle.std.specs.Prelude.{◌≡◌, ◌<◌, ◌≤◌, length, map, All, IfOk, OnOk};
 ghost use Rattle.slice_rules.specs.Keys.{key_after, slice_keys};
 ghost use Rattle.picture_slices.specs.Facts.{HaveGoodEntries, AreSlices};
-ghost use Rattle.picture_slices.specs.Fits.{IsSliceOrigin, AreTops};
+ghost use Rattle.primitives.specs.Tops.{IsSliceOrigin, AreTops};
 ghost use Rattle.picture_slices.specs.Slices.{origin_of, slice_of, keyed_slices, picture_slices};
 ghost use Rattle.picture_slices.specs.declared.slice.Slice.{Slice as SliceValue};
 

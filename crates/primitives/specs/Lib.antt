@@ -6,3 +6,4 @@ pub mod Laws
 pub mod Moves
 pub mod PrimitiveModel
 pub mod Stacks
+pub mod Tops

@@ -10,8 +10,8 @@ use Rattle.primitives.specs.declared.entry.Entry.TheVariants as entry
 use Rattle.primitives.specs.declared.kind.Kind.TheVariants as kind
 use Rattle.primitives.specs.PrimitiveModel.{PrimitiveModel}
 use Rattle.slice_rules.specs.Homes.{Home}
-use Rattle.picture_slices.specs.Fits.{IsWhole, IsCloseRect, AreCloseClips, IsCloseEntry, IsSliceOrigin, IsTop}
-use Rattle.picture_slices.specs.Fits as whole
+use Rattle.primitives.specs.Tops.{IsWhole, IsCloseRect, AreCloseClips, IsCloseEntry, IsSliceOrigin, IsTop}
+use Rattle.primitives.specs.Tops as whole
 
 -- where the tops' slices begin
 near : IsSliceOrigin (record { x = pos 10; y = neg_ℤ (pos 10) })

@@ -3,7 +3,7 @@
 
 ghost use Rattle.std.specs.Prelude.{◌≡◌, ◌<◌, length, IfOk};
 ghost use Rattle.clip_masks.specs.declared.clip.Clip.{Clip as ClipValue};
-ghost use Rattle.picture_slices.specs.Fits.{IsCloseRect, AreCloseClips, IsTop, AreTops};
+ghost use Rattle.primitives.specs.Tops.{IsCloseRect, AreCloseClips, IsTop, AreTops};
 
 use blend_rules::Px;
 use clip_masks::Clip;

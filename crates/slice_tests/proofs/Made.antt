@@ -10,8 +10,8 @@ use Rattle.primitives.specs.declared.entry.Entry.TheVariants as entry
 use Rattle.primitives.specs.declared.kind.Kind.TheVariants as kind
 use Rattle.primitives.specs.PrimitiveModel.{PrimitiveModel}
 use Rattle.primitives.specs.Stacks as row
-use Rattle.picture_slices.specs.Fits.{IsWhole, IsCloseRect, AreCloseClips, IsCloseEntry}
-use Rattle.picture_slices.specs.Fits as whole
+use Rattle.primitives.specs.Tops.{IsWhole, IsCloseRect, AreCloseClips, IsCloseEntry}
+use Rattle.primitives.specs.Tops as whole
 use Rattle.slice_tests.specs.TopOf.{IsTopOf}
 
 abbrev solid : Px → Bounds → List Clip → PrimitiveModel

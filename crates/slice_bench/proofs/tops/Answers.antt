@@ -1,7 +1,7 @@
 use Rattle.std.proofs.Common.{sym, subst}
 use Rattle.std.specs.Prelude.{All}
 use Rattle.std.proofs.lemmas.List.Elements.{All-push}
-use Rattle.picture_slices.specs.Fits.{IsTop}
+use Rattle.primitives.specs.Tops.{IsTop}
 use Rattle.slice_bench.proofs.tops.Goals as goal
 
 pub loop-k-preserved : goal.loop-k-preserved

@@ -1,4 +1,4 @@
-use Rattle.picture_slices.specs.Fits.{AreTops}
+use Rattle.primitives.specs.Tops.{AreTops}
 use Rattle.slice_bench.proofs.tops.Given as goal
 
 abbrev pub invariant-loop-k : goal.invariant-loop-k

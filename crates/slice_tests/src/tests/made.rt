@@ -2,7 +2,7 @@
 
 ghost use Rattle.std.specs.Prelude.{◌≡◌, length, IfOk};
 ghost use Rattle.clip_masks.specs.declared.clip.Clip.{Clip as ClipValue};
-ghost use Rattle.picture_slices.specs.Fits.{IsCloseRect, AreCloseClips, IsSliceOrigin, IsTop, AreTops};
+ghost use Rattle.primitives.specs.Tops.{IsCloseRect, AreCloseClips, IsSliceOrigin, IsTop, AreTops};
 ghost use Rattle.primitives.specs.declared.entry.Entry.TheVariants as entry;
 ghost use Rattle.primitives.specs.declared.kind.Kind.TheVariants as kind;
 ghost use Rattle.slice_tests.specs.TopOf.{IsTopOf};

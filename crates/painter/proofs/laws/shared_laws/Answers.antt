@@ -1,4 +1,5 @@
-use Rattle.painter.proofs.CommonClips.{shared_begin_each, shared_sharable, shared_most, homeless_none, slices_tops}
+use Rattle.slice_rules.proofs.Common.{shared_begin_each, shared_sharable, shared_most, homeless_none}
+use Rattle.slice_rules.proofs.Runs.{slices_some}
 use Rattle.painter.proofs.OutsideShown.{each_home, clear_outside}
 use Rattle.painter.proofs.laws.shared_laws.Goals as goal
 
@@ -9,6 +10,6 @@ returns c = record {
   sharable = shared_sharable;
   most = shared_most;
   homeless = homeless_none;
-  some = slices_tops;
+  some = slices_some;
   shown = clear_outside;
 }

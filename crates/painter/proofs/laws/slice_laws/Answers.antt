@@ -1,5 +1,4 @@
-use Rattle.painter.proofs.Slicing.{runs_joined}
-use Rattle.painter.proofs.Runs.{runs_are, runs_differ, slices_joined, slices_few}
+use Rattle.slice_rules.proofs.Runs.{runs_are, runs_differ, runs_joined, slices_joined, slices_few}
 use Rattle.painter.proofs.laws.slice_laws.Goals as goal
 
 pub returns : goal.returns

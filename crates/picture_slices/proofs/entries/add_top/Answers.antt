@@ -5,7 +5,7 @@ use Rattle.std.proofs.lemmas.List.Elements.{All-nil}
 use Rattle.primitives.specs.declared.entry.Entry.{Entry}
 use Rattle.primitives.specs.Facts.{IsEntry}
 use Rattle.primitives.specs.Moves.{shifted_entries}
-use Rattle.picture_slices.specs.Fits.{IsCloseEntry}
+use Rattle.primitives.specs.Tops.{IsCloseEntry}
 use Rattle.picture_slices.proofs.Moving.{begun, moved_one, moved_all, moved_none, rest_close, first_close, next_good}
 use Rattle.picture_slices.proofs.entries.add_top.Goals.{in-Some+in_ok-push, in_default}
 use Rattle.picture_slices.proofs.entries.add_top.Goals as goal

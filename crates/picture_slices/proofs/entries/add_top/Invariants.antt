@@ -1,7 +1,7 @@
 use Rattle.std.proofs.Common.{◌≡◌, ◌++◌, All}
 use Rattle.primitives.specs.Facts.{IsEntry}
 use Rattle.primitives.specs.Moves.{shifted_entries}
-use Rattle.picture_slices.specs.Fits.{IsCloseEntry}
+use Rattle.primitives.specs.Tops.{IsCloseEntry}
 use Rattle.picture_slices.specs.Slices.{first_without}
 use Rattle.picture_slices.proofs.entries.add_top.Given as goal
 

@@ -7,7 +7,7 @@ use Rattle.slice_rules.specs.Runs.{Run}
 use Rattle.slice_rules.proofs.Runs.{slices_few}
 use Rattle.picture_slices.specs.TopClips.{home_of_top}
 use Rattle.picture_slices.specs.Facts.{HaveGoodEntries, AreSlices}
-use Rattle.picture_slices.specs.Fits.{IsTop, AreTops}
+use Rattle.primitives.specs.Tops.{IsTop, AreTops}
 use Rattle.picture_slices.specs.Slices.{keyed_slices, picture_slices}
 use Rattle.picture_slices.proofs.Fitting.{slices_good}
 use Rattle.picture_slices.proofs.Keyed.{each_slice, all_tops}

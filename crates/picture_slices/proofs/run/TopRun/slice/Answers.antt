@@ -1,8 +1,8 @@
 use Rattle.std.proofs.Common.{ℕ, length, subst, sym, ap, ◌≤◌}
+use Rattle.primitives.specs.Tops.{first_clips}
 use Rattle.std.specs.Prelude.{All}
 use Rattle.primitives.specs.declared.entry.Top.{Top}
 use Rattle.slice_rules.specs.Runs.{Run}
-use Rattle.picture_slices.specs.TopClips.{first_clips}
 use Rattle.picture_slices.proofs.Sharing.{shared_are_there}
 use Rattle.picture_slices.proofs.run.TopRun.slice.Goals as goal
 

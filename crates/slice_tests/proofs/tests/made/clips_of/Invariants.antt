@@ -1,5 +1,5 @@
 use Rattle.std.proofs.Common.{◌≡◌, length}
-use Rattle.picture_slices.specs.Fits.{AreCloseClips}
+use Rattle.primitives.specs.Tops.{AreCloseClips}
 use Rattle.slice_tests.proofs.tests.made.clips_of.Given as goal
 
 abbrev pub invariant-loop-clipped : goal.invariant-loop-clipped

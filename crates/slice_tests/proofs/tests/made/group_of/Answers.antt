@@ -3,7 +3,7 @@ use Rattle.std.proofs.lemmas.List.Elements.{All-nil}
 use Rattle.blend_rules.specs.declared.mode.Mode.TheVariants.{Normal}
 use Rattle.clip_masks.specs.declared.clip.Clip.{Clip}
 use Rattle.primitives.specs.declared.entry.Entry.TheVariants as entry
-use Rattle.picture_slices.specs.Fits.{IsCloseRect, AreCloseClips}
+use Rattle.primitives.specs.Tops.{IsCloseRect, AreCloseClips}
 use Rattle.slice_tests.proofs.Made.{four, two_solids}
 use Rattle.slice_tests.proofs.tests.made.group_of.Goals as goal
 

@@ -1,24 +1,33 @@
--- The tops of which slices are made: each is one primitive or one group, near the view.
+-- Tops: each is one primitive or one group, near the point (0, 0). What makes tops gives such ones, and what takes them may ask for it.
 use Rattle.std.specs.Prelude.{◌≡◌, ℕ, ◌^◌, ℤ, pos, neg_ℤ, ◌≤ℤ◌, List, [], ◌∷◌, ◌++◌, length, All}
 use Rattle.wr_geom.specs.Bounds.{Bounds}
 use Rattle.wr_geom.specs.declared.point.Point.{Point}
 use Rattle.blend_rules.specs.declared.mode.Mode.{Mode}
 use Rattle.clip_masks.specs.declared.clip.Clip.{Clip}
+use Rattle.primitives.specs.Clipping.{entry_clips}
+use Rattle.primitives.specs.PrimitiveModel.{PrimitiveModel}
+use Rattle.primitives.specs.Stacks.{IsRow}
 use Rattle.primitives.specs.declared.entry.Entry.{Entry}
 use Rattle.primitives.specs.declared.entry.Entry.TheVariants as entry
 use Rattle.primitives.specs.declared.entry.Top.{Top}
 use Rattle.primitives.specs.declared.kind.GlyphUse.{GlyphUse}
 use Rattle.primitives.specs.declared.kind.Kind.{Kind}
 use Rattle.primitives.specs.declared.kind.Kind.TheVariants as kind
-use Rattle.primitives.specs.PrimitiveModel.{PrimitiveModel}
-use Rattle.primitives.specs.Stacks.{IsRow}
-use Rattle.picture_slices.specs.TopClips.{first_clips}
+
+-- the clips of the first of some entries: of the primitive, or of the Push of the group
+abbrev pub first_clips : List Entry → List Clip
+first_clips [] = []
+first_clips (e ∷ es) = entry_clips e
+
+-- the entries of tops, one after another
+abbrev pub top_entries : List Top → List Entry
+top_entries [] = []
+top_entries (t ∷ ts) = t.entries ++ top_entries ts
 
 -- one primitive, or one group from its Push to its Pop
 pub data IsWhole : List Entry → Type 0 where
   primitive : (p : PrimitiveModel) → IsWhole (entry.Primitive p ∷ [])
-  group : (opacity : ℕ) (mode : Mode) (clips : List Clip) (es : List Entry)
-      → IsRow es → IsWhole (entry.Push opacity mode clips ∷ (es ++ (entry.Pop ∷ [])))
+  group : (opacity : ℕ) (mode : Mode) (clips : List Clip) (es : List Entry) → IsRow es → IsWhole (entry.Push opacity mode clips ∷ (es ++ (entry.Pop ∷ [])))
 
 -- ---- how far from the point (0, 0) they are, in pixels
 

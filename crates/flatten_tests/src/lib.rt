@@ -1,0 +1,11 @@
+//! The tests of top items as entries, over small scenes.
+#![tactic(auto)]
+
+#[cfg(test)]
+mod expected;
+#[cfg(test)]
+mod flat;
+#[cfg(test)]
+mod parts;
+#[cfg(test)]
+mod stage;

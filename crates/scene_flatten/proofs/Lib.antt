@@ -1,0 +1,10 @@
+pub mod Paints
+pub mod Wholes
+pub mod Near
+pub mod Flat
+pub mod Rising
+pub mod Lone
+pub mod Opening
+pub mod Tables
+pub mod Enough
+pub mod Fitting

@@ -1,0 +1,6 @@
+use Rattle.scene_flatten.proofs.Flat.{tops_have_clips}
+use Rattle.scene_flatten.proofs.Paints.{top_paints, tops_paint_items, tops_paint_root}
+use Rattle.scene_flatten.proofs.laws.flat_laws.Goals as goal
+
+pub returns : goal.returns
+returns c = record { top = top_paints; tops = tops_paint_items; root = tops_paint_root; clips = tops_have_clips }
