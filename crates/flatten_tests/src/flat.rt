@@ -22,10 +22,22 @@ const LONE: Expected = Expected {
 };
 
 const KINDS: [Expected; 4] = [
-    Expected { steps: &[Step::Draw(1, 5, &[])], ..LONE },
-    Expected { steps: &[Step::Draw(2, 0, &[])], ..LONE },
-    Expected { steps: &[Step::Draw(3, 0, &[])], ..LONE },
-    Expected { steps: &[Step::Draw(4, 0, &[])], ..LONE },
+    Expected {
+        steps: &[Step::Draw(1, 5, &[])],
+        ..LONE
+    },
+    Expected {
+        steps: &[Step::Draw(2, 0, &[])],
+        ..LONE
+    },
+    Expected {
+        steps: &[Step::Draw(3, 0, &[])],
+        ..LONE
+    },
+    Expected {
+        steps: &[Step::Draw(4, 0, &[])],
+        ..LONE
+    },
 ];
 
 fn kinds(alloc: Global) -> Result<bool, NoMemory> {
@@ -59,7 +71,10 @@ const INSIDE: [Expected; 3] = [
         homes: &[Some((0, 1)), None, Some((0, 1))],
         steps: &[Step::Draw(125, -7, &[110, 30, 120])],
     },
-    Expected { steps: &[Step::Draw(9, 0, &[])], ..LONE },
+    Expected {
+        steps: &[Step::Draw(9, 0, &[])],
+        ..LONE
+    },
 ];
 
 /// Pipeline 1 in an Iframe under two clips, of which the scroll frame moves one.
@@ -174,7 +189,10 @@ fn a_group_is_one_top_item(rt: HostRuntime) {
     assert_eq!(rt; groups(rt.alloc()), Ok(true));
 }
 
-const PLAIN: [Expected; 1] = [Expected { steps: &[Step::Draw(1, 0, &[])], ..LONE }];
+const PLAIN: [Expected; 1] = [Expected {
+    steps: &[Step::Draw(1, 0, &[])],
+    ..LONE
+}];
 
 const FADED: [Expected; 1] = [Expected {
     steps: &[Step::Open(0, &[]), Step::Draw(1, 0, &[]), Step::Close],
@@ -211,9 +229,10 @@ fn uses(stage: &Stage) -> Result<Option<(Option<u64>, Option<u64>, i32)>, NoMemo
     let [first, second] = found.as_slice() else {
         return Ok(None);
     };
-    let ([Entry::Primitive(image)], [Entry::Primitive(text)]) =
-        (first.entries.as_slice(), second.entries.as_slice())
-    else {
+    let ([Entry::Primitive(image)], [Entry::Primitive(text)]) = (
+        first.entries.as_slice(),
+        second.entries.as_slice(),
+    ) else {
         return Ok(None);
     };
     match (image.kind(), text.kind()) {

@@ -42,14 +42,7 @@ impl ListBytes {
     }
 
     /// A tag, a node, a chain and a square.
-    fn spot(
-        &mut self,
-        tag: u8,
-        node: u16,
-        chain: u16,
-        x: i32,
-        y: i32,
-    ) -> Result<(), AllocError> {
+    fn spot(&mut self, tag: u8, node: u16, chain: u16, x: i32, y: i32) -> Result<(), AllocError> {
         self.bytes.push(tag)?;
         self.two(node)?;
         self.two(chain)?;
