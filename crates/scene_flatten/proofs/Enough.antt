@@ -1,5 +1,5 @@
 -- 64 levels of pipelines are enough for entries.
-use Rattle.std.proofs.Common.{◌≡◌, ℕ, zero, suc, ◌+◌, ◌<◌, ◌≤◌, List, [], ◌++◌, length, if◌then◌else◌, Option, Some, None, refl, ap, ap₂, ◌∙◌, arith}
+use Rattle.std.proofs.Common.{◌≡◌, ℕ, zero, suc, ◌+◌, ◌<◌, ◌≤◌, List, [], ◌++◌, length, if◌then◌else◌, Option, Some, None, refl, ap₂, ◌∙◌, arith}
 use Rattle.std.specs.Option.{option_map}
 use Rattle.wr_geom.specs.declared.point.Point.{Point}
 use Rattle.clip_masks.specs.declared.clip.Clip.{Clip}

@@ -1,7 +1,6 @@
 -- What items show fits their rectangles.
-use Rattle.std.proofs.Common.{◌≡◌, ℕ, ◌+◌, length, subst, ◌∙◌}
+use Rattle.std.proofs.Common.{◌≡◌, ℕ, subst}
 use Rattle.blend_rules.specs.declared.colour.Px.{Px}
-use Rattle.blend_rules.specs.Colour.{IsPixel}
 use Rattle.display_list.specs.declared.item.Spot.{Spot}
 use Rattle.display_list.specs.Trees.{Tree, solid, border, IsTree}
 use Rattle.wr_geom.specs.declared.sides.Radii.{Radii}

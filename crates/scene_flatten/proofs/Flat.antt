@@ -1,5 +1,5 @@
 -- The top items of a scene are tops: each is one primitive or one group, close to the point (0, 0), with a home for each clip.
-use Rattle.std.proofs.Common.{◌≡◌, ℕ, zero, suc, ◌+◌, ◌<◌, ◌≤◌, ◌^◌, ℤ, pos, Bool, true, false, if◌then◌else◌, List, [], ◌∷◌, ◌++◌, length, map, Option, Some, None, refl, sym, ap, subst, ◌∙◌, arith}
+use Rattle.std.proofs.Common.{◌≡◌, ℕ, zero, suc, ◌+◌, ◌≤◌, pos, Bool, true, false, if◌then◌else◌, List, [], ◌∷◌, length, Option, Some, None, refl, sym, ap, ◌∙◌, arith}
 use Rattle.std.specs.Prelude.{All}
 use Rattle.std.specs.Option.{option_map}
 use Rattle.std.proofs.lemmas.Int.{ints}
@@ -7,12 +7,10 @@ use Rattle.std.proofs.lemmas.Option.{none-some}
 use Rattle.std.proofs.lemmas.List.Elements.{All-nil, All-cons, All-head, All-tail, All-append, All-map, All-weaker}
 use Rattle.wr_geom.specs.declared.point.Point.{Point}
 use Rattle.clip_masks.specs.declared.clip.Clip.{Clip}
-use Rattle.display_list.specs.declared.item.Spot.{Spot}
 use Rattle.display_list.specs.ListModel.{ListModel}
 use Rattle.display_list.specs.Trees.{Tree, solid, image, border, text, context, iframe, hit_area, Trees, none, more, told, IsTree, AreTrees}
 use Rattle.image_store.specs.StoreModel.{StoreModel}
 use Rattle.pipelines.specs.Table.{PipelineMap, pipeline_at, pipeline_list, AreFit}
-use Rattle.primitives.specs.declared.entry.Top.{Top}
 use Rattle.primitives.specs.Tops.{IsSliceOrigin, IsCloseRect, first_clips, IsTop, AreTops}
 use Rattle.scene_limits.specs.Limits.{scene_fault}
 use Rattle.scene_limits.specs.Places.{zero_point}
@@ -20,8 +18,7 @@ use Rattle.scene_limits.proofs.Within.{no_fault}
 use Rattle.slice_rules.specs.Homes.{Home}
 use Rattle.painter.specs.Frames.{root_frame_of}
 use Rattle.painter.specs.PlacedList.{PlacedList, node_point, item_rect, first_corner, is_plain}
-use Rattle.painter.specs.Painter.{ScenePixel}
-use Rattle.painter.specs.TopItems.{Around, TopItem, TopLister, nothing_around, around_iframe, frame_point, origin_by, node_origin, top_item, tree_tops, trees_tops, list_tops, tops_in, top_items, node_of, top_origin}
+use Rattle.painter.specs.TopItems.{Around, TopItem, TopLister, nothing_around, around_iframe, frame_point, origin_by, node_origin, top_item, tree_tops, trees_tops, list_tops, tops_in, top_items, node_of}
 use Rattle.painter.specs.Shared.{top_clips, top_homes}
 use Rattle.painter.specs.Facts.{Reaches, TreeReaches, TreesReach}
 use Rattle.painter.specs.Laws.{IsTopItem}
@@ -37,7 +34,7 @@ use Rattle.scene_flatten.specs.Facts.{IsNearList, IsNearAround, IsNearTop}
 use Rattle.scene_flatten.specs.Laws.{scene_pixel, TopsHaveTheirClips}
 use Rattle.scene_flatten.specs.Tops.{top_of, scene_tops}
 use Rattle.scene_flatten.proofs.Wholes.{item_whole, item_clips}
-use Rattle.scene_flatten.proofs.Near.{point_close, node_within, close_inside, tree_close, levels_close, list_near}
+use Rattle.scene_flatten.proofs.Near.{point_close, close_inside, tree_close, levels_close, list_near}
 
 -- ---- origins
 

@@ -1,5 +1,5 @@
 -- The top item of a primitive.
-use Rattle.std.proofs.Common.{◌≡◌, ℕ, List, [], ◌∷◌, ◌++◌, map, Option, Some, None, refl, sym, ap, subst, ◌∙◌}
+use Rattle.std.proofs.Common.{◌≡◌, List, [], ◌∷◌, ◌++◌, map, Option, Some, sym, ap, ◌∙◌}
 use Rattle.display_list.specs.declared.item.Spot.{Spot}
 use Rattle.display_list.specs.Trees.{Tree, solid, image, border, text, context, iframe, hit_area}
 use Rattle.image_store.specs.StoreModel.{StoreModel}
@@ -9,7 +9,7 @@ use Rattle.primitives.specs.declared.kind.Kind.{Kind}
 use Rattle.primitives.specs.declared.kind.Kind.TheVariants as kind
 use Rattle.painter.specs.PlacedList.{PlacedList}
 use Rattle.painter.specs.Painter.{image_kind, text_kind}
-use Rattle.painter.specs.TopItems.{Around, TopItem}
+use Rattle.painter.specs.TopItems.{Around}
 use Rattle.scene_flatten.specs.Entries.{primitive_kind, primitive_entry}
 use Rattle.scene_flatten.specs.Tops.{top_of, top_at, primitive_tops}
 

@@ -1,5 +1,5 @@
 -- The entries of a scene that breaks no limit are close to the point (0, 0).
-use Rattle.std.proofs.Common.{◌≡◌, ℕ, zero, suc, ◌+◌, ◌<◌, ◌≤◌, ◌^◌, ℤ, pos, neg_ℤ, ◌+ℤ◌, ◌≤ℤ◌, Bool, true, false, if◌then◌else◌, List, [], ◌∷◌, ◌++◌, length, map, Option, Some, None, refl, sym, ap, subst, ◌∙◌, arith}
+use Rattle.std.proofs.Common.{◌≡◌, ℕ, zero, suc, ◌+◌, ◌<◌, ◌^◌, ℤ, ◌+ℤ◌, Bool, true, false, if◌then◌else◌, List, [], ◌∷◌, ◌++◌, length, map, Option, Some, None, refl, arith}
 use Rattle.std.specs.Prelude.{All}
 use Rattle.std.specs.Option.{option_map}
 use Rattle.std.proofs.lemmas.Int.{ints}
@@ -12,7 +12,6 @@ use Rattle.field_forms.specs.Facts.{IsNear, IsRectangle}
 use Rattle.display_list.specs.declared.item.Spot.{Spot}
 use Rattle.display_list.specs.declared.item.GlyphAt.{GlyphAt}
 use Rattle.display_list.specs.declared.node.ClipDef.{ClipDef}
-use Rattle.display_list.specs.declared.token.Push.{Push}
 use Rattle.display_list.specs.Facts.{IsClip, IsGlyph, IsSpot}
 use Rattle.display_list.specs.ListModel.{ListModel}
 use Rattle.display_list.specs.Trees.{Tree, solid, image, border, text, context, iframe, hit_area, Trees, none, more, told, IsTree, AreTrees}
@@ -24,13 +23,12 @@ use Rattle.clip_tree.specs.Placed.{placed_clip, placed_clips}
 use Rattle.pipelines.specs.Table.{PipelineMap, pipeline_at, pipeline_list, AreFit}
 use Rattle.primitives.specs.declared.kind.Kind.{Kind}
 use Rattle.primitives.specs.declared.kind.Kind.TheVariants as kind
-use Rattle.primitives.specs.declared.kind.GlyphUse.{GlyphUse}
 use Rattle.primitives.specs.declared.entry.Entry.{Entry}
 use Rattle.primitives.specs.declared.entry.Entry.TheVariants as entry
 use Rattle.primitives.specs.Tops.{IsWithinPixels, IsSliceOrigin, IsCloseRect, IsCloseGlyph, IsCloseKind, AreCloseClips, IsCloseEntry}
 use Rattle.painter.specs.PlacedList.{PlacedList, node_point, item_rect, chain_clips, first_corner, iframe_clips, is_plain}
 use Rattle.painter.specs.Painter.{glyph_use, image_kind, text_kind}
-use Rattle.painter.specs.Facts.{IsPlaced, Reaches, TreeReaches, TreesReach}
+use Rattle.painter.specs.Facts.{Reaches, TreeReaches, TreesReach}
 use Rattle.painter.proofs.Enough.{placed}
 use Rattle.painter.proofs.Reaching.{list_placed, list_can}
 use Rattle.scene_flatten.specs.Entries.{EntryLister, primitive_entry, push_entry, group_entries, tree_entries, trees_entries, list_entries, entries_in}

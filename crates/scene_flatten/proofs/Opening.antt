@@ -1,5 +1,5 @@
 -- The list of a pipeline in reach, opened.
-use Rattle.std.proofs.Common.{◌≡◌, ℕ, Option, Some, None, refl, sym, ap, ◌∙◌}
+use Rattle.std.proofs.Common.{◌≡◌, ℕ, Option, Some, sym, ap, ◌∙◌}
 use Rattle.wr_geom.specs.declared.point.Point.{Point}
 use Rattle.display_list.specs.ListModel.{ListModel}
 use Rattle.spatial_tree.specs.Moves.{MovesModel}

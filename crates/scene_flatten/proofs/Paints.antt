@@ -1,10 +1,9 @@
 -- Entries that run over a stack give what the painter gives.
-use Rattle.std.proofs.Common.{◌≡◌, ℕ, zero, suc, Bool, true, false, if◌then◌else◌, List, [], ◌∷◌, ◌++◌, map, Option, Some, None, refl, sym, ap, ◌∙◌}
+use Rattle.std.proofs.Common.{◌≡◌, ℕ, zero, suc, Bool, true, false, if◌then◌else◌, List, [], ◌∷◌, ◌++◌, map, Option, Some, None, refl, ap, ◌∙◌}
 use Rattle.wr_geom.specs.declared.point.Point.{Point}
 use Rattle.blend_rules.specs.declared.colour.Px.{Px}
 use Rattle.blend_rules.specs.declared.mode.Mode.TheVariants.{Normal}
 use Rattle.blend_rules.specs.Colour.{clear, scaled, blended}
-use Rattle.clip_masks.specs.Coverage.{chain_coverage}
 use Rattle.clip_masks.specs.declared.clip.Clip.{Clip}
 use Rattle.clip_masks.proofs.Chains.{chain_none, chain-append}
 use Rattle.display_list.specs.declared.item.Spot.{Spot}
@@ -18,11 +17,9 @@ use Rattle.primitives.specs.Colours.{primitive_colour, covered_colour}
 use Rattle.primitives.specs.Stacks.{Group, Stack, group_over_backdrop, after_pop, step, run}
 use Rattle.primitives.specs.Tops.{top_entries}
 use Rattle.primitives.proofs.Runs.{runs_in_parts}
-use Rattle.scene_limits.specs.Places.{zero_point}
 use Rattle.painter.specs.PlacedList.{PlacedList, placed_at, item_rect, chain_clips, first_corner, iframe_clips, opacity_of, is_plain}
 use Rattle.painter.specs.Painter.{ScenePixel, ListPainter, image_kind, text_kind, primitive_of, under, paint_primitive, paint_group, paint_tree, paint_trees, paint_list, paint_levels, paint_pipeline}
-use Rattle.painter.specs.TopItems.{TopItem, top_items, paint_top}
-use Rattle.painter.specs.Slices.{paint_tops}
+use Rattle.painter.specs.TopItems.{top_items, paint_top}
 use Rattle.painter.proofs.TopColours.{tops_paint}
 use Rattle.scene_flatten.specs.Entries.{EntryLister, primitive_entry, push_entry, group_entries, tree_entries, trees_entries, list_entries, entries_in, pipeline_entries}
 use Rattle.scene_flatten.specs.Tops.{top_of}

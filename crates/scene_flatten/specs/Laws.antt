@@ -1,10 +1,9 @@
 -- What holds of entries and of the top items of a scene, as laws on the definitions.
-use Rattle.std.specs.Prelude.{◌≡◌, ℕ, ℤ, List, map, All, IsTrue}
+use Rattle.std.specs.Prelude.{◌≡◌, ℕ, ℤ, List, map, All}
 use Rattle.wr_geom.specs.declared.point.Point.{Point}
 use Rattle.blend_rules.specs.declared.colour.Px.{Px}
 use Rattle.clip_masks.specs.declared.clip.Clip.{Clip}
 use Rattle.display_list.specs.Trees.{Tree}
-use Rattle.pipelines.specs.Table.{PipelineMap}
 use Rattle.primitives.specs.Stacks.{Stack, run, IsRow}
 use Rattle.primitives.specs.Tops.{first_clips, top_entries}
 use Rattle.scene_limits.specs.Places.{zero_point}

@@ -1,4 +1,4 @@
-use Rattle.std.proofs.Common.{◌≡◌, ℕ, subst, sym, ap, ◌∙◌}
+use Rattle.std.proofs.Common.{ℕ, subst, sym, ap, ◌∙◌}
 use Rattle.std.specs.Option.{option_map}
 use Rattle.spatial_tree.specs.Homes.{root_scroll_of}
 use Rattle.spatial_tree.proofs.Nodes.{AreOrdered, scroll_up, scroll_done}

@@ -5,7 +5,6 @@ use Rattle.display_list.specs.declared.token.Push.{Push}
 use Rattle.display_list.specs.Trees.{Trees, context, told, tree_of, trees_of, tree_nesting, nesting_of}
 use Rattle.display_list.proofs.TreeLaws.{tree-context}
 use Rattle.list_summary.proofs.Counted.{item_nesting}
-use Rattle.primitives.specs.declared.entry.Top.{Top}
 use Rattle.painter.specs.PlacedList.{PlacedList}
 use Rattle.painter.specs.Facts.{CanPaint, CanPaintAll}
 use Rattle.painter.specs.TopItems.{TopItem, list_tops, trees_tops, pipeline_tops}
