@@ -2,10 +2,11 @@
 
 use crate::expected::{Expected, Step, has_tops};
 use crate::parts::{ListBytes, NONE};
-use crate::stage::Stage;
+use crate::stage::{Stage, on_a_stage};
+use picture_slices::Slice;
 use primitives::{Entry, Kind};
 use scene_flatten::{entry_laws, flat_laws, tops};
-use std::alloc::Global;
+use scene_slices::scene_slices;
 use wr_geom::NoMemory;
 
 /// Whether all was applied, and these are the top items.
@@ -40,8 +41,8 @@ const KINDS: [Expected; 4] = [
     },
 ];
 
-fn kinds(alloc: Global) -> Result<bool, NoMemory> {
-    let mut stage = Stage::start(alloc);
+fn kinds(stage: &mut Stage) -> Result<bool, NoMemory> {
+    let alloc = stage.alloc;
     let mut list = ListBytes::new(alloc);
     list.solid(0, NONE, 1, 5)?;
     list.image(2, 9)?;
@@ -50,12 +51,12 @@ fn kinds(alloc: Global) -> Result<bool, NoMemory> {
     list.text(0, 4, 5)?;
     list.iframe(0, NONE, 8, 1)?;
     stage.set_list(0, list)?;
-    shows(&stage, &KINDS)
+    shows(stage, &KINDS)
 }
 
 #[test]
 fn primitives_are_top_items_and_hit_areas_none(rt: HostRuntime) {
-    assert_eq!(rt; kinds(rt.alloc()), Ok(true));
+    assert_eq!(rt; on_a_stage(rt.alloc(), kinds), Ok(true));
 }
 
 const INSIDE: [Expected; 3] = [
@@ -78,8 +79,8 @@ const INSIDE: [Expected; 3] = [
 ];
 
 /// Pipeline 1 in an Iframe under two clips, of which the scroll frame moves one.
-fn around(alloc: Global) -> Result<bool, NoMemory> {
-    let mut stage = Stage::start(alloc);
+fn around(stage: &mut Stage) -> Result<bool, NoMemory> {
+    let alloc = stage.alloc;
     let mut outer = ListBytes::new(alloc);
     outer.frame(0, 100)?;
     outer.scroll_frame(1, 1)?;
@@ -101,12 +102,12 @@ fn around(alloc: Global) -> Result<bool, NoMemory> {
     stage.set_list(1, inner)?;
     stage.scroll(0, 1, 7)?;
     stage.scroll(1, 2, 8)?;
-    shows(&stage, &INSIDE)
+    shows(stage, &INSIDE)
 }
 
 #[test]
 fn an_iframe_puts_its_clips_and_home_around(rt: HostRuntime) {
-    assert_eq!(rt; around(rt.alloc()), Ok(true));
+    assert_eq!(rt; on_a_stage(rt.alloc(), around), Ok(true));
 }
 
 const TWICE: [Expected; 2] = [
@@ -125,8 +126,8 @@ const TWICE: [Expected; 2] = [
 ];
 
 /// Pipeline 1, which scrolls, in two Iframes.
-fn twice(alloc: Global) -> Result<bool, NoMemory> {
-    let mut stage = Stage::start(alloc);
+fn twice(stage: &mut Stage) -> Result<bool, NoMemory> {
+    let alloc = stage.alloc;
     let mut outer = ListBytes::new(alloc);
     outer.iframe(0, NONE, 10, 1)?;
     outer.iframe(0, NONE, 20, 1)?;
@@ -136,12 +137,12 @@ fn twice(alloc: Global) -> Result<bool, NoMemory> {
     inner.solid(1, NONE, 0, 0)?;
     stage.set_list(1, inner)?;
     stage.scroll(1, 2, 8)?;
-    shows(&stage, &TWICE)
+    shows(stage, &TWICE)
 }
 
 #[test]
 fn a_home_is_where_its_item_meets_it(rt: HostRuntime) {
-    assert_eq!(rt; twice(rt.alloc()), Ok(true));
+    assert_eq!(rt; on_a_stage(rt.alloc(), twice), Ok(true));
 }
 
 const GROUPED: [Expected; 1] = [Expected {
@@ -160,8 +161,8 @@ const GROUPED: [Expected; 1] = [Expected {
 }];
 
 /// A group of a chain, with a plain context, and in a second group an Iframe.
-fn groups(alloc: Global) -> Result<bool, NoMemory> {
-    let mut stage = Stage::start(alloc);
+fn groups(stage: &mut Stage) -> Result<bool, NoMemory> {
+    let alloc = stage.alloc;
     let mut outer = ListBytes::new(alloc);
     outer.scroll_frame(0, 1)?;
     outer.clip(0, 10)?;
@@ -181,12 +182,12 @@ fn groups(alloc: Global) -> Result<bool, NoMemory> {
     inner.chain(NONE, 0)?;
     inner.solid(0, 0, 3, 0)?;
     stage.set_list(1, inner)?;
-    shows(&stage, &GROUPED)
+    shows(stage, &GROUPED)
 }
 
 #[test]
 fn a_group_is_one_top_item(rt: HostRuntime) {
-    assert_eq!(rt; groups(rt.alloc()), Ok(true));
+    assert_eq!(rt; on_a_stage(rt.alloc(), groups), Ok(true));
 }
 
 const PLAIN: [Expected; 1] = [Expected {
@@ -200,21 +201,21 @@ const FADED: [Expected; 1] = [Expected {
 }];
 
 /// A context whose property isn't set at first, and then is 0.
-fn opacities(alloc: Global) -> Result<bool, NoMemory> {
-    let mut stage = Stage::start(alloc);
+fn opacities(stage: &mut Stage) -> Result<bool, NoMemory> {
+    let alloc = stage.alloc;
     let mut list = ListBytes::new(alloc);
     list.push(0, NONE, 255, 4)?;
     list.solid(0, NONE, 1, 0)?;
     list.pop()?;
     stage.set_list(0, list)?;
-    let plain = shows(&stage, &PLAIN)?;
+    let plain = shows(stage, &PLAIN)?;
     stage.set_opacity(0, 4, 0)?;
-    Ok(plain && shows(&stage, &FADED)?)
+    Ok(plain && shows(stage, &FADED)?)
 }
 
 #[test]
 fn a_property_makes_a_group(rt: HostRuntime) {
-    assert_eq!(rt; opacities(rt.alloc()), Ok(true));
+    assert_eq!(rt; on_a_stage(rt.alloc(), opacities), Ok(true));
 }
 
 /// An image of key 9 and one pixel.
@@ -245,27 +246,62 @@ fn uses(stage: &Stage) -> Result<Option<(Option<u64>, Option<u64>, i32)>, NoMemo
 }
 
 /// An image and a glyph before and after they are stored.
-fn resources(alloc: Global) -> Result<bool, NoMemory> {
-    let mut stage = Stage::start(alloc);
+fn resources(stage: &mut Stage) -> Result<bool, NoMemory> {
+    let alloc = stage.alloc;
     let mut list = ListBytes::new(alloc);
     list.frame(0, 40)?;
     list.image(0, 9)?;
     list.text(1, 0, 5)?;
     stage.set_list(0, list)?;
-    let absent = uses(&stage)? == Some((None, None, 43));
+    let absent = uses(stage)? == Some((None, None, 43));
     stage.apply(0, &ADD_IMAGE)?;
     stage.apply(0, &ADD_GLYPH)?;
-    let stored = uses(&stage)? == Some((Some(1), Some(2), 43));
+    let stored = uses(stage)? == Some((Some(1), Some(2), 43));
     Ok(stage.is_whole && absent && stored)
 }
 
 #[test]
 fn resources_have_their_generation(rt: HostRuntime) {
-    assert_eq!(rt; resources(rt.alloc()), Ok(true));
+    assert_eq!(rt; on_a_stage(rt.alloc(), resources), Ok(true));
 }
 
 #[test]
 fn laws_of_entries() {
     entry_laws();
     flat_laws();
+}
+
+/// Whether a slice is the one of this number of its home, from a column and row on.
+fn is_slice(slice: &Slice, scroll: Option<(u8, u16)>, nth: u8, origin: (i32, i32)) -> bool {
+    slice.key.scroll == scroll
+        && slice.key.nth == nth
+        && (slice.origin.x, slice.origin.y) == origin
+        && slice.entries.len() == 1
+}
+
+/// Solids of a scroll frame, of none, and of the scroll frame again.
+fn sliced(stage: &mut Stage) -> Result<bool, NoMemory> {
+    let alloc = stage.alloc;
+    let mut list = ListBytes::new(alloc);
+    list.scroll_frame(0, 1)?;
+    list.solid(1, NONE, 0, 0)?;
+    list.solid(0, NONE, 3, 0)?;
+    list.solid(1, NONE, 6, 0)?;
+    stage.set_list(0, list)?;
+    stage.scroll(0, 1, 7)?;
+    let slices = scene_slices(alloc, &stage.scene)?;
+    let found = match slices.as_slice() {
+        [a, b, c] => {
+            is_slice(a, Some((0, 1)), 0, (0, -7))
+                && is_slice(b, None, 0, (0, 0))
+                && is_slice(c, Some((0, 1)), 1, (0, -7))
+        }
+        _ => false,
+    };
+    Ok(stage.is_whole && found)
+}
+
+#[test]
+fn a_scene_is_cut_into_slices(rt: HostRuntime) {
+    assert_eq!(rt; on_a_stage(rt.alloc(), sliced), Ok(true));
 }

@@ -5,6 +5,7 @@ use image_store::Gens;
 use scene_state::Scene;
 use std::alloc::{AllocError, Global};
 use txn_format::{MAX_PAYLOAD_BYTES, Txn, read_txn};
+use wr_geom::NoMemory;
 
 /// A scene, the counter of its images and masks, and whether each payload so far was applied.
 #[derive(Drop)]
@@ -73,4 +74,15 @@ impl Stage {
     pub fn set_opacity(&mut self, pipeline: u8, id: u8, opacity: u8) -> Result<(), AllocError> {
         self.apply(pipeline, &[4, 1, id, 0, opacity])
     }
+}
+
+/// What a check answers on a scene before the first transaction.
+pub fn on_a_stage<F: FnOnce(&mut Stage) -> Result<bool, NoMemory>>(
+    alloc: Global,
+    check: F,
+) -> Result<bool, NoMemory>
+    requires { F.IsAlwaysCallable check }
+{
+    let mut stage = Stage::start(alloc);
+    check(&mut stage)
 }
