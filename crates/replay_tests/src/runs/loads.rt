@@ -9,11 +9,10 @@ use std::test::Fail;
 fn a_generated_file_begins_so(rt: HostRuntime) -> Result<(), Fail> {
     let file = generate(rt.alloc(), 1, 1)?;
     let start = [
-        0, 1, 4, 0, 10, 0, 1, 192, 0, 255, 255, 255, 255, 11, 64, 0, 64, 0, 0, 1, 0, 0, 5, 1, 0, 0,
-        0, 4, 0, 4, 0, 214, 214, 214, 255,
+        87, 82, 84, 49, 84, 117, 3, 0, 0, 0, 1, 4, 0, 10, 0, 1, 192, 0, 255, 255, 255, 255, 11, 64,
+        0, 64, 0, 0, 1, 0, 0, 5, 1, 0, 0, 0, 4, 0, 4, 0, 214, 214, 214, 255,
     ];
-    assert_eq!(rt; &file[..5], b"WRT1T".as_slice());
-    assert_eq!(rt; &file[9..44], start.as_slice());
+    assert!(rt; file.starts_with(&start));
     assert_eq!(rt; file.last().copied(), Some(b'Z'));
     Ok(())
 }
