@@ -144,7 +144,7 @@ def dialog(layers=8):
 
 def modes(isolate=True):
     """In each cell a disc of one colour, and over it, in one of the modes, a square of another. Where the cells aren't
-    isolated, the squares blend with the paper below too."""
+    isolated, the squares blend with the paper as well."""
     shown = scene.DisplayList()
     shown.solid((0, 0, 200, 200), rgb(236, 240, 241))
     for i, mode in enumerate(scene.MODES):
