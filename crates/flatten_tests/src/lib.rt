@@ -6,6 +6,12 @@ mod expected;
 #[cfg(test)]
 mod flat;
 #[cfg(test)]
+mod generated;
+#[cfg(test)]
 mod parts;
+#[cfg(test)]
+mod point;
+#[cfg(test)]
+mod rolls;
 #[cfg(test)]
 mod stage;

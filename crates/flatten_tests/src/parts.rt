@@ -5,16 +5,25 @@ use std::alloc::{AllocError, Global};
 /// Stands for no chain and for no property.
 pub const NONE: u16 = 65535;
 
-/// The bytes of a display list so far.
+/// The bytes of a display list so far, and what the items that come next look like.
 #[derive(Drop)]
 pub struct ListBytes {
     bytes: Vec<u8>,
+    /// The sides of their squares, in pixels.
+    pub side: i32,
+    /// Their colour: blue, green, red, alpha.
+    pub colour: [u8; 4],
+    /// The mode of contexts, by number.
+    pub mode: u8,
 }
 
 impl ListBytes {
     pub fn new(alloc: Global) -> ListBytes {
         ListBytes {
             bytes: Vec::new(alloc),
+            side: 2,
+            colour: [9, 9, 9, 255],
+            mode: 0,
         }
     }
 
@@ -33,12 +42,18 @@ impl ListBytes {
         self.bytes.extend_from_slice(&n.to_le_bytes())
     }
 
-    /// A square of two pixels.
+    /// A square.
     fn square(&mut self, x: i32, y: i32) -> Result<(), AllocError> {
         self.four(x)?;
         self.four(y)?;
-        self.four(x.saturating_add(2))?;
-        self.four(y.saturating_add(2))
+        self.four(x.saturating_add(self.side))?;
+        self.four(y.saturating_add(self.side))
+    }
+
+    /// The colour of the items that come next.
+    fn colour(&mut self) -> Result<(), AllocError> {
+        let colour = self.colour;
+        self.bytes.extend_from_slice(&colour)
     }
 
     /// A tag, a node, a chain and a square.
@@ -76,6 +91,18 @@ impl ListBytes {
         self.square(x, 0)
     }
 
+    /// A square with corners of one pixel as a clip, which keeps what is inside it or outside.
+    pub fn round_clip(&mut self, node: u16, x: i32, is_out: bool) -> Result<(), AllocError> {
+        self.bytes.push(4)?;
+        self.two(node)?;
+        self.bytes.push(u8::from(is_out))?;
+        self.square(x, 0)?;
+        for _ in 0..8 {
+            self.two(1)?;
+        }
+        Ok(())
+    }
+
     /// A chain of one clip.
     pub fn chain(&mut self, parent: u16, clip: u16) -> Result<(), AllocError> {
         self.bytes.push(5)?;
@@ -94,7 +121,7 @@ impl ListBytes {
 
     pub fn solid(&mut self, node: u16, chain: u16, x: i32, y: i32) -> Result<(), AllocError> {
         self.spot(6, node, chain, x, y)?;
-        self.bytes.extend_from_slice(&[9, 9, 9, 255])
+        self.colour()
     }
 
     /// The image of a key.
@@ -107,7 +134,9 @@ impl ListBytes {
     /// A text of one glyph of font 1, three pixels from its node.
     pub fn text(&mut self, node: u16, x: i32, glyph: u16) -> Result<(), AllocError> {
         self.spot(9, node, NONE, x, 0)?;
-        self.bytes.extend_from_slice(&[1, 0, 9, 9, 9, 255, 1, 0])?;
+        self.bytes.extend_from_slice(&[1, 0])?;
+        self.colour()?;
+        self.bytes.extend_from_slice(&[1, 0])?;
         self.two(glyph)?;
         self.four(3)?;
         self.four(0)
@@ -118,12 +147,12 @@ impl ListBytes {
         self.spot(8, 0, NONE, x, 0)?;
         self.bytes.extend_from_slice(&[1, 0, 1, 0, 1, 0, 1, 0])?;
         for _ in 0..4 {
-            self.bytes.extend_from_slice(&[9, 9, 9, 255])?;
+            self.colour()?;
         }
         self.bytes.extend_from_slice(&[0; 16])
     }
 
-    /// The beginning of a context of mode 0.
+    /// The beginning of a context.
     pub fn push(
         &mut self,
         node: u16,
@@ -136,7 +165,7 @@ impl ListBytes {
         self.two(chain)?;
         self.bytes.push(opacity)?;
         self.two(property)?;
-        self.bytes.extend_from_slice(&[0, 0])
+        self.bytes.extend_from_slice(&[self.mode, 0])
     }
 
     pub fn pop(&mut self) -> Result<(), AllocError> {
