@@ -1,12 +1,14 @@
-//! With a word as argument, prints how many nanoseconds of the process's processor time the next scene takes
-//! after one operation.
+//! With a word as argument, prints how many nanoseconds of the process's processor time a scene takes: with `tops`
+//! to be made a list of top items, for each of its items, and with another word to be followed by the next scene.
 #![tactic(auto)]
 
 mod payloads;
 mod subject;
+mod top_items;
 
 use crate::payloads::{SOLID, iframe, list, scrolls};
 use crate::subject::Subject;
+use crate::top_items::time_top_items;
 use image_store::Gens;
 use std::alloc::AllocError;
 use std::time::{CpuClock, Duration};
@@ -111,8 +113,11 @@ fn time_all(rt: &HostRuntime) -> io::Result<()> {
 
 fn main(rt: HostRuntime) -> io::Result<()> {
     // Without a word nothing is written, since times differ from run to run.
-    if env::args(&rt)?.count() < 2 {
+    let Some(word) = env::args(&rt)?.nth(1) else {
         return Ok(());
+    };
+    if word.as_str() == "tops" {
+        return time_top_items(&rt);
     }
     time_all(&rt)
 }
