@@ -5,7 +5,7 @@ use Rattle.slice_rules.specs.Homes.{Home, same_home}
 use Rattle.slice_rules.specs.Runs.{Run, before_runs, runs, joined, rest_in_one}
 use Rattle.slice_rules.proofs.Runs.{home_same, run_of}
 use Rattle.picture_slices.specs.TopClips.{home_of_top}
-use Rattle.picture_slices.specs.Gathered.{alone, with_top, without_home, after_run, after_runs}
+use Rattle.picture_slices.specs.Gathered.{lone_run, with_top, without_home, after_run, after_runs}
 use Rattle.picture_slices.specs.Slices.{top_slices}
 
 abbrev TopRuns : Type 0
@@ -15,16 +15,16 @@ TopRuns = List (Run Top)
 
 -- a run and a top after it
 abbrev one_after : Run Top → Top → Bool → TopRuns
-one_after r t b = if b then with_top r t ∷ [] else r ∷ alone t ∷ []
+one_after r t b = if b then with_top r t ∷ [] else r ∷ lone_run t ∷ []
 
 -- runs and a top after them
 abbrev all_after : TopRuns → Top → TopRuns
-all_after [] t = alone t ∷ []
+all_after [] t = lone_run t ∷ []
 all_after (r ∷ []) t = one_after r t (same_home r.home t.scroll)
 all_after (r ∷ s ∷ rs) t = r ∷ all_after (s ∷ rs) t
 
 abbrev before_by : Bool → Top → Run Top → TopRuns → TopRuns
-before_by b u r rs = if b then run_of u.scroll (u ∷ r.members) ∷ rs else alone u ∷ (r ∷ rs)
+before_by b u r rs = if b then run_of u.scroll (u ∷ r.members) ∷ rs else lone_run u ∷ (r ∷ rs)
 
 between : (u t : Top) (r : Run Top) (b c : Bool) → same_home u.scroll r.home ≡ b → same_home r.home t.scroll ≡ c
     → before_runs home_of_top u (one_after r t c) ≡ all_after (before_by b u r []) t
@@ -43,7 +43,7 @@ around u t r s rs false = refl
 both_ends : (u t : Top) (rs : TopRuns) → before_runs home_of_top u (all_after rs t) ≡ all_after (before_runs home_of_top u rs) t
 both_ends u t [] = pair (same_home u.scroll t.scroll)
   where
-    pair : (b : Bool) → before_by b u (alone t) [] ≡ one_after (alone u) t b
+    pair : (b : Bool) → before_by b u (lone_run t) [] ≡ one_after (lone_run u) t b
     pair true = refl
     pair false = refl
 both_ends u t (r ∷ []) = between u t r (same_home u.scroll r.home) (same_home r.home t.scroll) refl refl
@@ -105,11 +105,11 @@ with_rest (suc n) m r s rs t = refl
 
 room_by : (n : ℕ) (r : Run Top) (t : Top) (b : Bool) → one_after r t b ≡ rest_in_one (suc n) (one_after r t b)
 room_by n r t true = sym (rest_single (suc n) (with_top r t))
-room_by n r t false = ap (λ (rs : TopRuns). r ∷ rs) (sym (rest_single n (alone t)))
+room_by n r t false = ap (λ (rs : TopRuns). r ∷ rs) (sym (rest_single n (lone_run t)))
 
 rest-more : (n : ℕ) (rs : TopRuns) (t : Top) → after_runs n (rest_in_one n rs) t ≡ rest_in_one n (all_after rs t)
 rest-more zero rs t = rest_zero-more rs t
-rest-more (suc n) [] t = sym (rest_single (suc n) (alone t))
+rest-more (suc n) [] t = sym (rest_single (suc n) (lone_run t))
 rest-more (suc n) (r ∷ []) t = ap (λ (rs : TopRuns). after_runs (suc n) (r ∷ rs) t) (rest_none n) ∙ room_by n r t (same_home r.home t.scroll)
 rest-more (suc n) (r ∷ s ∷ rs) t = with_rest n n r s rs t ∙ ap (λ (qs : TopRuns). r ∷ qs) (rest-more n (s ∷ rs) t)
 
@@ -129,7 +129,7 @@ joins : (k : ℕ) (r : Run Top) (t : Top) → same_home r.home t.scroll ≡ true
 joins zero r t h = rw h refl
 joins (suc k) r t h = rw h refl
 
-follows : (k : ℕ) (r : Run Top) (t : Top) → 0 < k → same_home r.home t.scroll ≡ false → after_run k r t ≡ r ∷ alone t ∷ []
+follows : (k : ℕ) (r : Run Top) (t : Top) → 0 < k → same_home r.home t.scroll ≡ false → after_run k r t ≡ r ∷ lone_run t ∷ []
 follows zero r t l h = absurd (omega arith)
 follows (suc k) r t l h = rw h refl
 
@@ -145,10 +145,10 @@ last_of rs front r t e h =
 pub add_same : (rs front : TopRuns) (r : Run Top) (t : Top) → rs ≡ front ++ r ∷ [] → length rs ≤ 8 → same_home r.home t.scroll ≡ true → after_runs 7 rs t ≡ front ++ with_top r t ∷ []
 add_same rs front r t e h s = last_of rs front r t e h ∙ ap (λ (qs : TopRuns). front ++ qs) (joins (7 - length front) r t s)
 
-pub add_new : (rs front : TopRuns) (r : Run Top) (t : Top) → rs ≡ front ++ r ∷ [] → length rs < 8 → same_home r.home t.scroll ≡ false → after_runs 7 rs t ≡ (front ++ r ∷ []) ++ alone t ∷ []
+pub add_new : (rs front : TopRuns) (r : Run Top) (t : Top) → rs ≡ front ++ r ∷ [] → length rs < 8 → same_home r.home t.scroll ≡ false → after_runs 7 rs t ≡ (front ++ r ∷ []) ++ lone_run t ∷ []
 add_new rs front r t e h s =
     let l : length rs ≡ length front + 1 = ap length e ∙ length-append front (r ∷ []) in
-    last_of rs front r t e (omega arith) ∙ ap (λ (qs : TopRuns). front ++ qs) (follows (7 - length front) r t (omega arith) s) ∙ sym (append_assoc front (r ∷ []) (alone t ∷ []))
+    last_of rs front r t e (omega arith) ∙ ap (λ (qs : TopRuns). front ++ qs) (follows (7 - length front) r t (omega arith) s) ∙ sym (append_assoc front (r ∷ []) (lone_run t ∷ []))
 
 pub add_full : (rs front : TopRuns) (r : Run Top) (t : Top) → rs ≡ front ++ r ∷ [] → length rs ≤ 8 → 8 ≤ length rs → same_home r.home t.scroll ≡ false → after_runs 7 rs t ≡ front ++ with_top (without_home r) t ∷ []
 add_full rs front r t e h m s =

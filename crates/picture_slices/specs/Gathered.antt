@@ -5,8 +5,8 @@ use Rattle.slice_rules.specs.Homes.{same_home}
 use Rattle.slice_rules.specs.Runs.{Run}
 
 -- a run of one top
-abbrev pub alone : Top → Run Top
-alone t = record { home = t.scroll; members = t ∷ [] }
+abbrev pub lone_run : Top → Run Top
+lone_run t = record { home = t.scroll; members = t ∷ [] }
 
 -- a run with one top more
 abbrev pub with_top : Run Top → Top → Run Top
@@ -18,11 +18,11 @@ without_home r = record { home = None; members = r.members }
 -- a run and a top after it, where so many more runs may come
 abbrev pub after_run : ℕ → Run Top → Top → List (Run Top)
 after_run zero r t = if same_home r.home t.scroll then with_top r t ∷ [] else with_top (without_home r) t ∷ []
-after_run (suc n) r t = if same_home r.home t.scroll then with_top r t ∷ [] else r ∷ alone t ∷ []
+after_run (suc n) r t = if same_home r.home t.scroll then with_top r t ∷ [] else r ∷ lone_run t ∷ []
 
 -- runs, at most one more than this number, and a top after them
 abbrev pub after_runs : ℕ → List (Run Top) → Top → List (Run Top)
-after_runs n [] t = alone t ∷ []
+after_runs n [] t = lone_run t ∷ []
 after_runs n (r ∷ []) t = after_run n r t
 after_runs zero (r ∷ s ∷ rs) t = r ∷ after_runs zero (s ∷ rs) t
 after_runs (suc n) (r ∷ s ∷ rs) t = r ∷ after_runs n (s ∷ rs) t

@@ -23,13 +23,13 @@ fn add(alloc: Global, runs: &mut Vec<TopRun>, top: Top) -> Result<(), NoMemory>
 {
     let count = runs.len();
     match runs.pop() {
-        None => runs.push(TopRun::alone(alloc, top)?)?,
+        None => runs.push(TopRun::lone_run(alloc, top)?)?,
         Some(last) => {
             if same_home(last.home, top.scroll) {
                 runs.push(last.with_top(top)?)?;
             } else if count < MAX_SLICES {
                 runs.push(last)?;
-                runs.push(TopRun::alone(alloc, top)?)?;
+                runs.push(TopRun::lone_run(alloc, top)?)?;
             } else {
                 runs.push(last.without_home().with_top(top)?)?;
             }

@@ -1,7 +1,7 @@
 //! Tops that follow one another and have one home.
 
 ghost use Rattle.std.specs.Prelude.{◌≡◌, IfOk};
-ghost use Rattle.picture_slices.specs.Gathered.{alone, with_top, without_home};
+ghost use Rattle.picture_slices.specs.Gathered.{lone_run, with_top, without_home};
 
 use containers::Sequence;
 use primitives::Top;
@@ -30,8 +30,8 @@ impl Model for TopRun {
 
 impl TopRun {
     /// A run of one top.
-    pub(crate) fn alone(alloc: Global, top: Top) -> Result<TopRun, NoMemory>
-        ensures { IfOk result (λ r. r ≡ alone top) }
+    pub(crate) fn lone_run(alloc: Global, top: Top) -> Result<TopRun, NoMemory>
+        ensures { IfOk result (λ r. r ≡ lone_run top) }
     {
         let home = top.scroll;
         let mut tops = Sequence::new(alloc);
