@@ -1,7 +1,7 @@
 #!/usr/bin/env python3
 """Runs kernel_bench and its peers in turns, and prints medians and ratios.
 
-Needs gcc and pixman's headers. Build crates/kernel_bench first, then: python3 tools/compare_kernels.py [TURNS]
+Needs gcc and pixman's headers. Build crates/kernel_bench first, then: python3 tools/bench/compare_kernels.py [TURNS]
 """
 import collections
 import pathlib
@@ -10,14 +10,14 @@ import subprocess
 import sys
 import tempfile
 
-ROOT = pathlib.Path(__file__).resolve().parent.parent
+ROOT = pathlib.Path(__file__).resolve().parent.parent.parent
 MODES = ["multiply", "screen", "overlay", "darken", "lighten", "hard_light", "difference", "exclusion"]
 
 
 def build(folder):
     flags = subprocess.run(["pkg-config", "--cflags", "--libs", "pixman-1"], capture_output=True, text=True, check=True)
     peer = str(pathlib.Path(folder) / "peers")
-    source = str(ROOT / "tools/kernel_peers.c")
+    source = str(ROOT / "tools/bench/kernel_peers.c")
     subprocess.run(["gcc", "-O3", "-march=x86-64-v2", source, "-o", peer, *flags.stdout.split()], check=True)
     return peer
 
