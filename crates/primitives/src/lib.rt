@@ -19,6 +19,6 @@ pub use colour::{colour_at, is_opaque, visible};
 pub use entry::{Entry, Top};
 pub use image::image_colour_at;
 pub use kind::{GlyphUse, Kind};
-pub use laws::{colour_laws, entry_order_laws, know_entry, run_laws, shift_laws};
+pub use laws::{colour_laws, entry_order_laws, know_entry, nesting_laws, run_laws, shift_laws};
 pub use primitive::Primitive;
 pub use text::glyph_over;
