@@ -1,5 +1,5 @@
 -- What holds of primitives and of runs of entries, as laws on the definitions.
-use Rattle.std.specs.Prelude.{◌≡◌, ℕ, ℤ, ◌+ℤ◌, ◌++◌, ◌∷◌, List, take, max, All, IsTrue, IsFalse}
+use Rattle.std.specs.Prelude.{◌≡◌, ℕ, ℤ, ◌+ℤ◌, ◌++◌, ◌∷◌, ◌≤◌, ◌&&◌, List, take, All, IsTrue, IsFalse}
 use Rattle.wr_geom.specs.Bounds.{holds}
 use Rattle.wr_geom.specs.declared.point.Point.{Point}
 use Rattle.blend_rules.specs.Colour.{IsPixel, clear}
@@ -9,7 +9,7 @@ use Rattle.primitives.specs.PrimitiveModel.{PrimitiveModel, IsPrimitive}
 use Rattle.primitives.specs.Colours.{primitive_colour, covered_colour, visible_rect}
 use Rattle.primitives.specs.Moves.{shifted_primitive, shifted_entry, shifted_entries}
 use Rattle.primitives.specs.Clipping.{entry_clips, without_clips}
-use Rattle.primitives.specs.Stacks.{Stack, step, run, balanced, most_open, IsRow}
+use Rattle.primitives.specs.Stacks.{Stack, step, run, balanced, is_shallow, IsRow}
 use Rattle.primitives.specs.Facts.{IsOpaque, IsEntry, IsHidden, IsStack}
 use Rattle.primitives.specs.declared.entry.Entry.{Entry}
 use Rattle.primitives.specs.declared.entry.Entry.TheVariants as entry
@@ -81,17 +81,21 @@ BalancedKnowsTopAlone = (store : StoreModel) (x y : ℤ) (es : List Entry) (s t 
 abbrev pub RowsAreBalanced : Type 0
 RowsAreBalanced = (es : List Entry) → IsRow es → IsTrue (balanced 0 es)
 
--- in two lists, of which the first is primitives and whole groups, as many are open as in the one where more are
-abbrev pub RowsNestByParts : Type 0
-RowsNestByParts = (n : ℕ) (es fs : List Entry) → IsRow es → most_open n (es ++ fs) ≡ max (most_open n es) (most_open n fs)
+-- primitives and whole groups are as shallow before others as alone, and leave as much room
+abbrev pub RowsLeaveRoom : Type 0
+RowsLeaveRoom = (room : ℕ) (es fs : List Entry) → IsRow es → is_shallow room (es ++ fs) ≡ (is_shallow room es && is_shallow room fs)
 
--- as many are open in moved entries
-abbrev pub ShiftedNestAlike : Type 0
-ShiftedNestAlike = (n : ℕ) (es : List Entry) (by : Point) → most_open n (shifted_entries es by) ≡ most_open n es
+-- what is shallow is so where there is more room
+abbrev pub RoomIsEnough : Type 0
+RoomIsEnough = (room more : ℕ) (es : List Entry) → room ≤ more → IsTrue (is_shallow room es) → IsTrue (is_shallow more es)
 
--- and in entries of which the first has fewer clips
-abbrev pub FewerClipsNestAlike : Type 0
-FewerClipsNestAlike = (n k : ℕ) (e : Entry) (es : List Entry) → most_open n (without_clips e k ∷ es) ≡ most_open n (e ∷ es)
+-- moved entries are as shallow
+abbrev pub ShiftedIsShallow : Type 0
+ShiftedIsShallow = (room : ℕ) (es : List Entry) (by : Point) → is_shallow room (shifted_entries es by) ≡ is_shallow room es
+
+-- and so are entries of which the first has fewer clips
+abbrev pub FewerClipsAreShallow : Type 0
+FewerClipsAreShallow = (room n : ℕ) (e : Entry) (es : List Entry) → is_shallow room (without_clips e n ∷ es) ≡ is_shallow room (e ∷ es)
 
 -- a stack of pixels stays one
 abbrev pub RunKeepsPixels : Type 0

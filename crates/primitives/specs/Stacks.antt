@@ -1,5 +1,5 @@
 -- Entries, painted over a stack of colours at one point.
-use Rattle.std.specs.Prelude.{ℕ, zero, suc, max, ℤ, Bool, true, false, List, [], ◌∷◌, ◌++◌}
+use Rattle.std.specs.Prelude.{ℕ, zero, suc, ℤ, Bool, true, false, List, [], ◌∷◌, ◌++◌}
 use Rattle.blend_rules.specs.declared.colour.Px.{Px}
 use Rattle.blend_rules.specs.declared.mode.Mode.{Mode}
 use Rattle.blend_rules.specs.declared.mode.Mode.TheVariants.{Normal}
@@ -61,13 +61,13 @@ balanced n (entry.Push opacity mode clips ∷ es) = balanced (suc n) es
 balanced zero (entry.Pop ∷ es) = false
 balanced (suc n) (entry.Pop ∷ es) = balanced n es
 
--- after so many open groups, how many are open at most at once
-abbrev pub most_open : ℕ → List Entry → ℕ
-most_open n [] = n
-most_open n (entry.Primitive p ∷ es) = most_open n es
-most_open n (entry.Push opacity mode clips ∷ es) = most_open (suc n) es
-most_open zero (entry.Pop ∷ es) = most_open zero es
-most_open (suc n) (entry.Pop ∷ es) = max (suc n) (most_open n es)
+-- whether no Push opens a group where none more may be open: so many may be at first, and each Pop makes room for one
+abbrev pub is_shallow : ℕ → List Entry → Bool
+is_shallow room [] = true
+is_shallow room (entry.Primitive p ∷ es) = is_shallow room es
+is_shallow zero (entry.Push opacity mode clips ∷ es) = false
+is_shallow (suc room) (entry.Push opacity mode clips ∷ es) = is_shallow room es
+is_shallow room (entry.Pop ∷ es) = is_shallow (suc room) es
 
 -- primitives and whole groups in order
 pub data IsRow : List Entry → Type 0 where

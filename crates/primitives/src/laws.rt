@@ -11,7 +11,7 @@ ghost use Rattle.primitives.specs.declared.kind.Kind.{Kind as KindValue};
 ghost use Rattle.primitives.specs.Laws.{ColourIsPixel, CoveredIsPixel, ClearWhereNotVisible, OpaqueIsFull, OpaqueReplaces};
 ghost use Rattle.primitives.specs.Laws.{ShiftedHasColours, ShiftedHasCoveredColours, ShiftedSteps, ShiftedRuns, ShiftedIsVisible};
 ghost use Rattle.primitives.specs.Laws.{FullClipsDoNothing, RunsInParts, BalancedLeavesGroups, BalancedKnowsTopAlone};
-ghost use Rattle.primitives.specs.Laws.{RowsNestByParts, ShiftedNestAlike, FewerClipsNestAlike};
+ghost use Rattle.primitives.specs.Laws.{RowsLeaveRoom, RoomIsEnough, ShiftedIsShallow, FewerClipsAreShallow};
 ghost use Rattle.primitives.specs.Laws.{RowsAreBalanced, RunKeepsPixels, HiddenLeavesStack, HiddenListLeavesStack};
 
 use crate::{Entry, GlyphUse, Kind, Primitive};
@@ -50,11 +50,12 @@ pub fn run_laws()
     ensures hidden_list { HiddenListLeavesStack }
 {}
 
-/// How many groups of entries are open at once. It does nothing.
+/// How deep groups of entries nest. It does nothing.
 pub fn nesting_laws()
-    ensures rows { RowsNestByParts }
-    ensures shifted { ShiftedNestAlike }
-    ensures fewer_clips { FewerClipsNestAlike }
+    ensures rows { RowsLeaveRoom }
+    ensures enough { RoomIsEnough }
+    ensures shifted { ShiftedIsShallow }
+    ensures fewer_clips { FewerClipsAreShallow }
 {}
 
 /// `==` and the order of entries tell different ones apart. It does nothing.

@@ -1,9 +1,10 @@
-use Rattle.primitives.proofs.Nesting.{rows_nest_by_parts, shifted_nest_alike, fewer_clips_nest_alike}
+use Rattle.primitives.proofs.Nesting.{rows_leave_room, room_is_enough, shifted_is_shallow, fewer_clips_are_shallow}
 use Rattle.primitives.proofs.laws.nesting_laws.Goals as goal
 
 pub returns : goal.returns
 returns c = record {
-  rows = rows_nest_by_parts;
-  shifted = shifted_nest_alike;
-  fewer_clips = fewer_clips_nest_alike;
+  rows = rows_leave_room;
+  enough = room_is_enough;
+  shifted = shifted_is_shallow;
+  fewer_clips = fewer_clips_are_shallow;
 }
