@@ -34,17 +34,17 @@ use Rattle.picture_slices.proofs.Keyed.{keys_of_slices, slices-length, each_slic
 
 -- ---- rows
 
-row_append : (es fs : List Entry) → IsRow es → IsRow fs → IsRow (es ++ fs)
+pub row_append : (es fs : List Entry) → IsRow es → IsRow fs → IsRow (es ++ fs)
 row_append _ fs row.none other = other
 row_append _ fs (row.primitive p es h) other = row.primitive p (es ++ fs) (row_append es fs h other)
 row_append _ fs (row.group o m clips es gs h i) other =
     subst (λ (xs : List Entry). IsRow (entry.Push o m clips ∷ xs)) (sym (append_assoc es (entry.Pop ∷ gs) fs)) (row.group o m clips es (gs ++ fs) h (row_append gs fs i other))
 
-whole_row : (es : List Entry) → IsWhole es → IsRow es
+pub whole_row : (es : List Entry) → IsWhole es → IsRow es
 whole_row _ (whole.primitive p) = row.primitive p [] row.none
 whole_row _ (whole.group o m clips es h) = row.group o m clips es [] h row.none
 
-whole_without : (n : ℕ) (es : List Entry) → IsWhole es → IsRow (first_without n es)
+pub whole_without : (n : ℕ) (es : List Entry) → IsWhole es → IsRow (first_without n es)
 whole_without n _ (whole.primitive p) = row.primitive _ [] row.none
 whole_without n _ (whole.group o m clips es h) = row.group o m _ es [] h row.none
 

@@ -6,3 +6,4 @@ pub mod Moving
 pub mod Painting
 pub mod Keyed
 pub mod Fitting
+pub mod Nesting

@@ -1,16 +1,16 @@
 -- What holds of slices, as laws on the definitions.
-use Rattle.std.specs.Prelude.{◌≡◌, ℤ, ◌-ℤ◌, List, map, IsTrue, IsFalse}
+use Rattle.std.specs.Prelude.{◌≡◌, ◌≤◌, ℕ, ℤ, ◌-ℤ◌, List, length, map, All, IsTrue, IsFalse}
 use Rattle.wr_geom.specs.Bounds.{Bounds, holds}
 use Rattle.wr_geom.specs.declared.keys.SliceKey.{SliceKey}
 use Rattle.blend_rules.specs.declared.colour.Px.{Px}
 use Rattle.blend_rules.specs.Colour.{clear}
 use Rattle.image_store.specs.StoreModel.{StoreModel, IsStore}
 use Rattle.primitives.specs.declared.entry.Top.{Top}
-use Rattle.primitives.specs.Stacks.{value_at}
+use Rattle.primitives.specs.Stacks.{value_at, is_shallow}
 use Rattle.slice_rules.specs.Runs.{Run}
 use Rattle.slice_rules.specs.Keys.{slice_keys}
 use Rattle.picture_slices.specs.Facts.{HaveGoodEntries, AreSlices}
-use Rattle.primitives.specs.Tops.{AreTops}
+use Rattle.primitives.specs.Tops.{AreTops, top_entries}
 use Rattle.picture_slices.specs.Slices.{slice_of, top_slices, picture_slices}
 use Rattle.picture_slices.specs.Values.{run_value, slice_value, runs_over, slices_over}
 
@@ -55,3 +55,15 @@ SlicesPaintTheTops =
     (store : StoreModel) (view : Bounds) (tops : List Top) (x y : ℤ) (backdrop : Px)
     → IsStore store → AreTops tops → HaveGoodEntries tops → IsTrue (holds view x y)
     → slices_over store x y (picture_slices view tops) backdrop ≡ runs_over store x y (top_slices tops) backdrop
+
+-- slices nest no deeper than the entries of their tops, one after another
+abbrev pub SlicesAreShallow : Type 0
+SlicesAreShallow =
+    (view : Bounds) (tops : List Top) (room : ℕ)
+    → AreTops tops → IsTrue (is_shallow room (top_entries tops)) → All (λ s. IsTrue (is_shallow room s.entries)) (picture_slices view tops)
+
+-- and each has at most as many entries as they are
+abbrev pub SlicesHaveFewEntries : Type 0
+SlicesHaveFewEntries =
+    (view : Bounds) (tops : List Top)
+    → All (λ s. length s.entries ≤ length (top_entries tops)) (picture_slices view tops)

@@ -1,6 +1,7 @@
 //! What holds of slices. Each function is empty: its contract is the law.
 
 ghost use Rattle.picture_slices.specs.Laws.{SlicesAreGood, SlicesHaveTheKeys};
+ghost use Rattle.picture_slices.specs.Laws.{SlicesAreShallow, SlicesHaveFewEntries};
 ghost use Rattle.picture_slices.specs.Laws.{ShownIsWhatTopsPaint, TopsPaintNothingElse};
 ghost use Rattle.picture_slices.specs.Laws.{SlicePaintsItsTops, SlicesPaintTheTops};
 
@@ -8,6 +9,8 @@ ghost use Rattle.picture_slices.specs.Laws.{SlicePaintsItsTops, SlicesPaintTheTo
 pub fn slice_laws()
     ensures good { SlicesAreGood }
     ensures keys { SlicesHaveTheKeys }
+    ensures shallow { SlicesAreShallow }
+    ensures few { SlicesHaveFewEntries }
 {}
 
 /// At each point of the view slices paint what their tops paint there. It does nothing.

@@ -102,7 +102,7 @@ levels_near (suc n) ps fit p origin a reach h = list_tops_near ps (tops_in n ps)
 
 -- ---- tops
 
-unbroken : (o : _) (full : Bool) → first_limit o full ≡ None → o ≡ None
+pub unbroken : (o : _) (full : Bool) → first_limit o full ≡ None → o ≡ None
 unbroken None full e = refl
 unbroken (Some code) full e = absurd (none-some code (sym e))
 

@@ -2,6 +2,7 @@ pub mod Paints
 pub mod Wholes
 pub mod Near
 pub mod Flat
+pub mod Nesting
 pub mod Rising
 pub mod Lone
 pub mod Opening

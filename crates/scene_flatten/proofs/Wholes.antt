@@ -15,7 +15,7 @@ use Rattle.painter.specs.Laws.{is_drawn}
 use Rattle.scene_flatten.specs.Entries.{EntryLister, push_entry, group_entries, tree_entries, trees_entries, list_entries, entries_in, pipeline_entries}
 use Rattle.scene_flatten.specs.Laws.{ItemEntriesAreRows}
 
-row-append : (es fs : List Entry) → IsRow es → IsRow fs → IsRow (es ++ fs)
+pub row-append : (es fs : List Entry) → IsRow es → IsRow fs → IsRow (es ++ fs)
 row-append es fs IsRow.none k = k
 row-append es fs (IsRow.primitive p gs h) k = IsRow.primitive p (gs ++ fs) (row-append gs fs h k)
 row-append es fs (IsRow.group opacity mode clips gs hs g h) k =

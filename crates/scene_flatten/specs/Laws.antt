@@ -1,10 +1,10 @@
 -- What holds of entries and of the top items of a scene, as laws on the definitions.
-use Rattle.std.specs.Prelude.{◌≡◌, ℕ, ℤ, List, map, All}
+use Rattle.std.specs.Prelude.{◌≡◌, ◌≤◌, ℕ, ℤ, List, length, map, All, IsTrue}
 use Rattle.wr_geom.specs.declared.point.Point.{Point}
 use Rattle.blend_rules.specs.declared.colour.Px.{Px}
 use Rattle.clip_masks.specs.declared.clip.Clip.{Clip}
 use Rattle.display_list.specs.Trees.{Tree}
-use Rattle.primitives.specs.Stacks.{Stack, run, IsRow}
+use Rattle.primitives.specs.Stacks.{Stack, run, is_shallow, IsRow}
 use Rattle.primitives.specs.Tops.{first_clips, top_entries}
 use Rattle.scene_limits.specs.Places.{zero_point}
 use Rattle.painter.specs.PlacedList.{PlacedList}
@@ -70,3 +70,11 @@ TopsHaveTheirClips =
     (scene : SceneModel)
     → IsScene scene
     → All (λ t. first_clips (top_of scene.pipelines scene.store t).entries ≡ top_clips t) (top_items scene.pipelines)
+
+-- in their entries, one after another, at most 64 groups nest
+abbrev pub TopsAreShallow : Type 0
+TopsAreShallow = (scene : SceneModel) → IsScene scene → IsTrue (is_shallow 64 (top_entries (scene_tops scene)))
+
+-- and there are at most two for each of the 65,536 items that a scene may have
+abbrev pub TopsHaveFewEntries : Type 0
+TopsHaveFewEntries = (scene : SceneModel) → IsScene scene → length (top_entries (scene_tops scene)) ≤ 131072
