@@ -12,7 +12,7 @@ use image_store::{Mask, Store, know_store};
 use wr_geom::Point;
 
 /// What a use of a mask draws: what is stored now, and nothing where it carries no generation.
-fn used_mask(store: &Store, pipeline: u8, font: u16, g: GlyphUse) -> Option<&Mask>
+pub(crate) fn used_mask(store: &Store, pipeline: u8, font: u16, g: GlyphUse) -> Option<&Mask>
     ensures { option_copied result ≡ resource_of_use g.generation (glyph_at store.now pipeline font g.glyph) }
 {
     match g.generation {
