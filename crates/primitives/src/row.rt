@@ -11,6 +11,7 @@ ghost use Rattle.primitives.specs.PrimitiveModel.{IsKind};
 use crate::border::{BorderColours, border_colour};
 use crate::image::used_image;
 use crate::image_row::row_of_image;
+use crate::text::distance;
 use crate::text_row::text_row;
 use crate::{Kind, Primitive};
 use blend_rules::Plane;
@@ -29,8 +30,7 @@ pub fn colour_row(prim: &Primitive, store: &Store, p: Plane, y: i32, x0: i32, ou
         fill(out, 0);
         return;
     }
-    let from = index_of(rect.x0() as i64 - x0 as i64, out.len());
-    let to = index_of(rect.x1() as i64 - x0 as i64, out.len());
+    let (from, to) = columns_in(rect, x0, out.len());
     clear_around(from, to, out);
     if from < to {
         kind_part(prim.kind(), rect, store, p, y, x0, from, to, out);
@@ -42,11 +42,27 @@ pub(crate) fn index_of(distance: i64, len: usize) -> usize
     ensures within { result ≤ len }
     ensures before { (k : ℕ) → k < result → pos k <ℤ distance }
     ensures after { (k : ℕ) → result ≤ k → k < len → distance ≤ℤ pos k }
+    ensures none { distance ≤ℤ pos 0 → result ≡ 0 }
+    ensures exact { pos 0 ≤ℤ distance → result < len → pos result ≡ distance }
 {
     if distance <= 0 {
         return 0;
     }
     (distance as usize).min(len)
+}
+
+/// The indices from which and up to which a row that begins at `x0` lies within a rectangle's columns.
+fn columns_in(rect: Rect, x0: i32, len: usize) -> (usize, usize)
+    ensures ordered { result.0 ≤ result.1 }
+    ensures within { result.1 ≤ len }
+    ensures before { (k : ℕ) → k < result.0 → (x0 +ℤ pos k) <ℤ rect.x0 }
+    ensures left { (k : ℕ) → result.0 ≤ k → k < result.1 → rect.x0 ≤ℤ (x0 +ℤ pos k) }
+    ensures right { (k : ℕ) → k < result.1 → (x0 +ℤ pos k) <ℤ rect.x1 }
+    ensures after { (k : ℕ) → result.1 ≤ k → k < len → rect.x1 ≤ℤ (x0 +ℤ pos k) }
+{
+    let from = index_of(distance(rect.x0(), x0), len);
+    let to = index_of(distance(rect.x1(), x0), len);
+    (from, to)
 }
 
 /// Fills the bytes of a row before the index `from` and from the index `to` on with 0.
@@ -58,6 +74,16 @@ fn clear_around(from: usize, to: usize, out: &mut [u8])
 {
     fill(&mut out[..from], 0);
     fill(&mut out[to..], 0);
+}
+
+/// The coordinate at an index of a row that begins at `x0`, within a rectangle's columns.
+fn pixel_at(rect: Rect, x0: i32, k: usize) -> i32
+    requires left { rect.x0 ≤ℤ (x0 +ℤ pos k) }
+    requires right { (x0 +ℤ pos k) <ℤ rect.x1 }
+    ensures { result ≡ x0 +ℤ pos k }
+{
+    let _left = rect.x0();
+    (x0 as i64 + k as i64) as i32
 }
 
 /// Writes the bytes from the index `from` up to `to` of a row that begins at (x0, y).
@@ -81,7 +107,7 @@ fn kind_part(
     ensures before { (k : ℕ) → k < from → slice_index out.new k ≡ slice_index out.old k }
     ensures after { (k : ℕ) → to ≤ k → slice_index out.new k ≡ slice_index out.old k }
 {
-    let first = (x0 as i64 + from as i64) as i32;
+    let first = pixel_at(rect, x0, from);
     kind_row(kind, rect, store, p, y, first, &mut out[from..to]);
 }
 
@@ -157,7 +183,7 @@ fn border_row(
         ≡ channel p (border_colour_at rect w colours radii (x0 +ℤ pos k) y)) }
 {
     for k in 0..out.len() {
-        let x = (x0 as i64 + k as i64) as i32;
+        let x = pixel_at(rect, x0, k);
         out[k] = border_colour(rect, w, colours, radii, x, y).channel(p);
     }
 }

@@ -47,7 +47,7 @@ fn coverage_of(mask: Option<&Mask>, x: i64, y: i64) -> u8
 }
 
 /// How far a coordinate lies beyond another, in pixels.
-fn distance(z: i32, from: i32) -> i64
+pub(crate) fn distance(z: i32, from: i32) -> i64
     ensures { result ≡ z -ℤ from }
 {
     z as i64 - from as i64
