@@ -1,0 +1,4 @@
+pub mod Keys
+pub mod Listed
+pub mod Backed
+pub mod Blank

@@ -1,0 +1,1 @@
+-- What holds of stores of tiles, as laws on the definitions.
