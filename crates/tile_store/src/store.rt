@@ -12,7 +12,7 @@ ghost use Rattle.tile_store.specs.Windows.{HasWindowRow, window_width, window_ro
 
 use crate::limits::MAX_TILES;
 use crate::spares::Spares;
-use crate::tile::{Tile, TileView, columns_in, row_in};
+use crate::tile::{Tile, TileView, columns_in, row_in, sides_of};
 use crate::window::{OpenWindow, Window};
 use lru::LruCache;
 use span_kernels::{Plane, Planes};
@@ -90,7 +90,7 @@ impl<R: Drop> TileStore<R> {
         ensures note { IfErr result (λ refused. refused.note ≡ note) }
         ensures err { OnErr result (self.new ≡ self.old) }
     {
-        let (width, height) = (rect.width() as u16, rect.height() as u16);
+        let (width, height) = sides_of(rect);
         let planes = match self.spares.blank(alloc, width, height) {
             Ok(planes) => planes,
             Err(_) => return Err(Refused { note }),

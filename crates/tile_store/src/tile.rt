@@ -1,5 +1,5 @@
 ghost use Rattle.std.specs.Prelude.{◌≡◌, ◌<◌, ◌≤◌, ◌+◌, ◌<ℤ◌, length};
-ghost use Rattle.wr_geom.specs.Bounds.{Covers, height_of, width_of};
+ghost use Rattle.wr_geom.specs.Bounds.{Covers, IsRect, height_of, width_of};
 ghost use Rattle.blend_rules.specs.declared.plane.Plane.TheVariants.{B, G, R as Red, A};
 ghost use Rattle.tile_store.specs.Tiles.{HasTileSides, HasRow, IsTile, tile_row, column_of, row_of};
 
@@ -77,6 +77,17 @@ impl<'a, R> TileView<'a, R> {
     {
         self.planes.rows(row_in(self.rect, y))
     }
+}
+
+/// How many columns and rows a tile has.
+pub(crate) fn sides_of(rect: Rect) -> (u16, u16)
+    requires { HasTileSides rect }
+    ensures width { result.0 ≡ width_of rect }
+    ensures height { result.1 ≡ height_of rect }
+    ensures rect { IsRect rect }
+{
+    let _left = rect.x0();
+    (rect.width() as u16, rect.height() as u16)
 }
 
 /// How many rows of a tile lie above the coordinate y.
