@@ -1,7 +1,8 @@
 -- The tiles with the planes put back that are taken out while a window is open.
 use Rattle.std.proofs.Common.{◌≡◌, ℕ, ◌<◌, ◌≤◌, arith, Bool, true, false, List, ◌∷◌, length, Option, Some, None, option_map, is_some, refl, ap, sym, ◌∙◌, true≢false}
 use Rattle.std.specs.Option.{option_map_or}
-use Rattle.std.specs.Map.{set_value}
+use Rattle.std.specs.Map.{set_value, keys_of}
+use Rattle.std.specs.List.{IsDistinct}
 use Rattle.span_kernels.specs.PlanesModel.{PlanesModel}
 use Rattle.wr_geom.specs.declared.keys.TileKey.{TileKey}
 use Rattle.tile_store.specs.declared.tile.Tile.{Tile}
@@ -13,7 +14,7 @@ use Rattle.tile_store.specs.Keys.{same_key}
 use Rattle.tile_store.specs.Tiles.{TileList, IsTile, tile_at, without, touched, changed_at}
 use Rattle.tile_store.specs.Within.{window_of, with_planes, put_back, IsOpenIn}
 use Rattle.tile_store.proofs.Keys.{key_same, key_is, key_from, key_turned}
-use Rattle.tile_store.proofs.Listed.{set_is_changed, changed_ext, changed_id, changed_twice, at_changed, at_changed_other, changes_commute, touched_changed, at_touched, length_changed}
+use Rattle.tile_store.proofs.Listed.{set_is_changed, changed_ext, changed_id, changed_twice, at_changed, at_changed_other, changes_commute, touched_changed, at_touched, length_changed, keys_changed}
 
 -- whether the window is open on the tile at a key
 abbrev pub is_open : Option OpenWindow → TileKey → Bool
@@ -148,3 +149,8 @@ module _ {R : Type 0} where
     tiles = (tile, h.tiles);
     window = lies_put s.window s.tiles key new none h.window;
   }
+
+  -- the keys are distinct as those of the cache are
+  pub own_keys_backed : (es : TileList R) (w : Option OpenWindow) (planes : PlanesModel) → IsDistinct same_key (keys_of es) → IsDistinct same_key (keys_of (put_back es w planes))
+  own_keys_backed es None planes h = h
+  own_keys_backed es (Some o) planes h = rw (keys_changed o.window.key (with_planes planes) es) h

@@ -1,6 +1,7 @@
 -- Equal keys are one key.
 use Rattle.std.proofs.Common.{◌≡◌, ℕ, Bool, true, false, ◌&&◌, eqb, int_eq, nat_eq, Option, Some, None, refl, ap, sym, ◌∙◌, true≢false}
 use Rattle.std.specs.Option.{option_eq}
+use Rattle.std.specs.Cmp.{IsEquivalence}
 use Rattle.std.proofs.lemmas.Bool.{and_parts, and_from, eqb-true}
 use Rattle.std.proofs.lemmas.Bool.Decides.{Decides-int_eq, Decides-eqb}
 use Rattle.wr_geom.specs.declared.keys.TileKey.{TileKey}
@@ -49,3 +50,18 @@ key_turned a b h = elim (same_key b a) as (λ t. same_key b a ≡ t → same_key
   | true ↦ λ e. absurd (true≢false (sym (key_from a b (sym (key_same b a e))) ∙ h))
   | false ↦ λ e. e
 ] refl
+
+same_either : (b c : Bool) → (b ≡ true → c ≡ true) → (c ≡ true → b ≡ true) → b ≡ c
+same_either true c f g = sym (f refl)
+same_either false true f g = g refl
+same_either false false f g = refl
+
+pub keys_equivalence : IsEquivalence same_key
+keys_equivalence = record {
+  refl = key_is;
+  symm = λ x y. same_either (same_key x y) (same_key y x) (λ h. key_from y x (sym (key_same x y h))) (λ h. key_from x y (sym (key_same y x h)));
+  congr = λ x y z h. ap (λ (k : TileKey). same_key k z) (key_same x y h);
+}
+
+pub key_test : (k : TileKey) (x y : TileKey) → same_key k x ≡ true → same_key k y ≡ same_key x y
+key_test k x y h = ap (λ (q : TileKey). same_key q y) (key_same k x h)

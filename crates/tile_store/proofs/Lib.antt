@@ -4,3 +4,4 @@ pub mod Backed
 pub mod Blank
 pub mod Puts
 pub mod Ready
+pub mod Pixels

@@ -1,6 +1,6 @@
 -- Lists of kept tiles: what is found in them, and what a change leaves.
 use Rattle.std.proofs.Common.{◌≡◌, ℕ, zero, suc, ◌+◌, ◌-◌, ◌≤◌, ◌<◌, Bool, true, false, List, [], ◌∷◌, length, length-take, min, take, Option, Some, None, option_map, refl, ap, sym, ◌∙◌, true≢false, arith}
-use Rattle.std.specs.Option.{option_map_or}
+use Rattle.std.specs.Option.{option_map_or, IfSome}
 use Rattle.std.specs.Map.{lookup, lookup_entry, remove_entry, set_value, keys_of}
 use Rattle.lru.specs.LruCache.{promoted}
 use Rattle.wr_geom.specs.declared.keys.TileKey.{TileKey}
@@ -261,3 +261,13 @@ module _ {R : Type 0} where
 
   pub store_taken : (count : ℕ) (es : TileList R) (n : ℕ) → IsStore (record { tiles = es; window = None; opened = n }) → IsStore (record { tiles = take count es; window = None; opened = n })
   store_taken count es n h = let le = length-take count es in let most = h.count in record { count = omega (arith, le, most); tiles = tiles_taken count es h.tiles; window = tt }
+
+  each_by : (key : TileKey) (es : TileList R) (o : Option (Tile R)) → AreTiles es → tile_at key es ≡ o → IfSome o (λ t. IsTile t)
+  each_by key es None all h = tt
+  each_by key es (Some t) all h = tile_in key es t all h
+
+  pub each_found : (key : TileKey) (es : TileList R) → AreTiles es → IfSome (tile_at key es) (λ t. IsTile t)
+  each_found key es all = each_by key es (tile_at key es) all refl
+
+  pub touched_first : (key : TileKey) (es : TileList R) (t : Tile R) → tile_at key es ≡ Some t → touched key es ≡ (key, t) ∷ without key es
+  touched_first key es t h = rw h refl

@@ -12,8 +12,8 @@ mod store;
 mod tile;
 mod window;
 
-pub use laws::key_laws;
+pub use laws::{key_laws, pixel_laws};
 pub use limits::{MAX_SPARE_PIXELS, MAX_SPARE_TILES, MAX_TILE_SIDE, MAX_TILES};
-pub use store::{Refused, TileStore};
+pub use store::{Refused, TileStore, know_store};
 pub use tile::{Tile, TileView};
 pub use window::Window;

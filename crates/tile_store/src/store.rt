@@ -1,14 +1,13 @@
-ghost use Rattle.std.specs.Prelude.{◌≡◌, ◌<◌, ◌≤◌, ◌∷◌, ◌^◌, [], false, Some, None, is_some, length, IfOk, OnOk, OnErr, IfErr, IsNone, IsSome, option_copied, option_map, ◌↔◌};
+ghost use Rattle.std.specs.Prelude.{◌≡◌, ◌<◌, ◌≤◌, ◌∷◌, ◌^◌, [], false, Some, None, is_some, length, IfOk, OnOk, OnErr, IfErr, IfSome, IsSome, option_copied, option_map, ◌↔◌};
 ghost use Rattle.std.specs.Borrow.{sem};
-ghost use Rattle.std.specs.List.{IsDistinct};
 ghost use Rattle.std.specs.Option.{option_map_or};
-ghost use Rattle.std.specs.Map.{keys_of};
 ghost use Rattle.wr_geom.specs.Bounds.{area_of};
-ghost use Rattle.span_kernels.specs.PlanesModel.{blank_planes};
 ghost use Rattle.tile_store.specs.Keys.{same_key};
 ghost use Rattle.tile_store.specs.Tiles.{HasTileSides, HasRow, HasRowWhereKept, IsTile, blank_tile, tile_row, tile_at, without, touched, changed_at, popped_over, least_recent_over};
 ghost use Rattle.tile_store.specs.StoreModel.{IsStore, LiesInTile, opened_after};
 ghost use Rattle.tile_store.specs.Windows.{HasWindowRow, window_width, window_row};
+ghost use Rattle.tile_store.specs.Laws.{HaveOwnKeys};
+ghost use Rattle.wr_geom.specs.declared.keys.TileKey.{TileKey};
 
 use crate::limits::MAX_TILES;
 use crate::spares::Spares;
@@ -134,6 +133,8 @@ impl<R: Drop> TileStore<R> {
     pub fn touch(&mut self, key: TileKey) -> bool
         ensures kept { result ≡ is_some (tile_at key self.old.tiles) }
         ensures store { self.new ≡ record self.old { tiles = touched key self.old.tiles } }
+        ensures first { (tile : _) → tile_at key self.old.tiles ≡ Some tile
+            → self.new.tiles ≡ (key, tile) ∷ without key self.old.tiles }
     {
         self.tiles.promote(&key)
     }
@@ -280,4 +281,13 @@ impl<R: Drop> TileStore<R> {
         mem::swap(&mut tile.planes, &mut self.lent);
         self.window = None;
     }
+}
+
+/// What the type of stores keeps, for whoever holds one. It does nothing.
+pub fn know_store<R>(store: &TileStore<R>)
+    ensures store { IsStore store.now }
+    ensures keys { HaveOwnKeys store.now.tiles }
+    ensures tiles { (key : TileKey) → IfSome (tile_at key store.now.tiles) (λ tile. IsTile tile) }
+{
+    let _count = store.tiles.len();
 }
