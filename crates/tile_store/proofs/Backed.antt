@@ -81,7 +81,7 @@ module _ {R : Type 0} where
   with_note note t = record t { note = note }
 
   pub noted_backed : (es : TileList R) (w : Option OpenWindow) (planes : PlanesModel) (key : TileKey) (t : Tile R) (note : R) → tile_at key es ≡ Some t
-    → put_back (set_value (same_key key) es (with_note note t)) w planes ≡ changed_at key (with_note note) (put_back es w planes)
+      → put_back (set_value (same_key key) es (with_note note t)) w planes ≡ changed_at key (with_note note) (put_back es w planes)
   noted_backed es None planes key t note h = set_is_changed key (with_note note) es t h
   noted_backed es (Some o) planes key t note h =
       ap (changed_at o.window.key (with_planes planes)) (set_is_changed key (with_note note) es t h)
@@ -100,7 +100,7 @@ module _ {R : Type 0} where
   -- ---- opening and closing
 
   pub opened_backed : (es : TileList R) (o : OpenWindow) (spare : PlanesModel) (t : Tile R) → tile_at o.window.key es ≡ Some t
-    → put_back (set_value (same_key o.window.key) es (with_planes spare t)) (Some o) t.planes ≡ es
+      → put_back (set_value (same_key o.window.key) es (with_planes spare t)) (Some o) t.planes ≡ es
   opened_backed es o spare t h =
       ap (changed_at o.window.key (with_planes t.planes)) (set_is_changed o.window.key (with_planes spare) es t h)
       ∙ changed_twice o.window.key (with_planes t.planes) (with_planes spare) es
@@ -108,7 +108,7 @@ module _ {R : Type 0} where
       ∙ changed_id o.window.key es
 
   pub opened_in : (es : TileList R) (o : OpenWindow) (spare : PlanesModel) (t : Tile R) → tile_at o.window.key es ≡ Some t → t.rect ≡ o.tile
-    → IsOpenIn (set_value (same_key o.window.key) es (with_planes spare t)) (Some o)
+      → IsOpenIn (set_value (same_key o.window.key) es (with_planes spare t)) (Some o)
   opened_in es o spare t h r = (with_planes spare t, ap (tile_at o.window.key) (set_is_changed o.window.key (with_planes spare) es t h) ∙ at_changed o.window.key (with_planes spare) es ∙ ap (option_map (with_planes spare)) h, r)
 
   -- ---- a new tile
@@ -127,7 +127,7 @@ module _ {R : Type 0} where
   other_by k key es t false none some e = e
 
   pub put_backed : (es : TileList R) (w : Option OpenWindow) (planes : PlanesModel) (key : TileKey) (new : Tile R) → tile_at key es ≡ None → IsOpenIn es w
-    → put_back ((key, new) ∷ es) w planes ≡ (key, new) ∷ put_back es w planes
+      → put_back ((key, new) ∷ es) w planes ≡ (key, new) ∷ put_back es w planes
   put_backed es None planes key new none i = refl
   put_backed es (Some o) planes key new none (t, h, r) = rw (other_by o.window.key key es t (same_key o.window.key key) none h refl) refl
 

@@ -77,22 +77,22 @@ module _ {R : Type 0} where
   at_changed_other k q f (e ∷ es) h = (elim (same_key k e.0) as (λ y. same_key k e.0 ≡ y → tile_at q (changed_at k f (e ∷ es)) ≡ tile_at q (e ∷ es)) [
     | true ↦ λ y. let z = apart k q e.0 h y in rw (y, z) refl
     | false ↦ λ y. rw y (elim (same_key q e.0) as (λ z. same_key q e.0 ≡ z → tile_at q (e ∷ changed_at k f es) ≡ tile_at q (e ∷ es)) [
-        | true ↦ λ z. rw z refl
-        | false ↦ λ z. rw z (at_changed_other k q f es h)
-      ] refl)
+      | true ↦ λ z. rw z refl
+      | false ↦ λ z. rw z (at_changed_other k q f es h)
+    ] refl)
   ]) refl
 
   pub changes_commute : (j k : TileKey) (f g : Tile R → Tile R) → ((t : Tile R) → f (g t) ≡ g (f t)) → (es : TileList R) → changed_at j f (changed_at k g es) ≡ changed_at k g (changed_at j f es)
   changes_commute j k f g h [] = refl
   changes_commute j k f g h (e ∷ es) = (elim (same_key j e.0) as (λ y. same_key j e.0 ≡ y → changed_at j f (changed_at k g (e ∷ es)) ≡ changed_at k g (changed_at j f (e ∷ es))) [
     | true ↦ λ y. (elim (same_key k e.0) as (λ z. same_key k e.0 ≡ z → changed_at j f (changed_at k g (e ∷ es)) ≡ changed_at k g (changed_at j f (e ∷ es))) [
-        | true ↦ λ z. rw (z, y, z, h e.1) refl
-        | false ↦ λ z. rw (z, y, z) refl
-      ]) refl
+      | true ↦ λ z. rw (z, y, z, h e.1) refl
+      | false ↦ λ z. rw (z, y, z) refl
+    ]) refl
     | false ↦ λ y. (elim (same_key k e.0) as (λ z. same_key k e.0 ≡ z → changed_at j f (changed_at k g (e ∷ es)) ≡ changed_at k g (changed_at j f (e ∷ es))) [
-        | true ↦ λ z. rw (z, y, z) refl
-        | false ↦ λ z. rw (z, y, z) (ap (λ l. e ∷ l) (changes_commute j k f g h es))
-      ]) refl
+      | true ↦ λ z. rw (z, y, z) refl
+      | false ↦ λ z. rw (z, y, z) (ap (λ l. e ∷ l) (changes_commute j k f g h es))
+    ]) refl
   ]) refl
 
   -- ---- a tile that goes first
@@ -119,9 +119,9 @@ module _ {R : Type 0} where
   without_changed_other key k f (e ∷ es) h = (elim (same_key k e.0) as (λ y. same_key k e.0 ≡ y → without key (changed_at k f (e ∷ es)) ≡ changed_at k f (without key (e ∷ es))) [
     | true ↦ λ y. let z = apart k key e.0 h y in rw (y, z, y) refl
     | false ↦ λ y. (elim (same_key key e.0) as (λ z. same_key key e.0 ≡ z → without key (changed_at k f (e ∷ es)) ≡ changed_at k f (without key (e ∷ es))) [
-        | true ↦ λ z. rw (y, z) refl
-        | false ↦ λ z. rw (y, z, y) (ap (λ l. e ∷ l) (without_changed_other key k f es h))
-      ]) refl
+      | true ↦ λ z. rw (y, z) refl
+      | false ↦ λ z. rw (y, z, y) (ap (λ l. e ∷ l) (without_changed_other key k f es h))
+    ]) refl
   ]) refl
 
   touched_by : (key k : TileKey) (f : Tile R → Tile R) (es : TileList R) (o : Option (Tile R)) (b : Bool) → tile_at key es ≡ o → same_key k key ≡ b → touched key (changed_at k f es) ≡ changed_at k f (touched key es)
@@ -143,9 +143,9 @@ module _ {R : Type 0} where
   at_without_other key q (e ∷ es) h = (elim (same_key key e.0) as (λ y. same_key key e.0 ≡ y → tile_at q (without key (e ∷ es)) ≡ tile_at q (e ∷ es)) [
     | true ↦ λ y. let z = apart key q e.0 h y in rw (y, z) refl
     | false ↦ λ y. rw y (elim (same_key q e.0) as (λ z. same_key q e.0 ≡ z → tile_at q (e ∷ without key es) ≡ tile_at q (e ∷ es)) [
-        | true ↦ λ z. rw z refl
-        | false ↦ λ z. rw z (at_without_other key q es h)
-      ] refl)
+      | true ↦ λ z. rw z refl
+      | false ↦ λ z. rw z (at_without_other key q es h)
+    ] refl)
   ]) refl
 
   at_touched_by : (key q : TileKey) (es : TileList R) (o : Option (Tile R)) (b : Bool) → tile_at key es ≡ o → same_key q key ≡ b → tile_at q (touched key es) ≡ tile_at q es
@@ -228,7 +228,7 @@ module _ {R : Type 0} where
   lies_in f keeps rect (Some t) h = rw (keeps t) h
 
   lies_by : (key : TileKey) (f : Tile R → Tile R) → ((t : Tile R) → (f t).rect ≡ t.rect) → (w : Window) (es : TileList R) (b : Bool) → same_key key w.key ≡ b
-    → LiesInTile w.rect (tile_at w.key es) → LiesInTile w.rect (tile_at w.key (changed_at key f es))
+      → LiesInTile w.rect (tile_at w.key es) → LiesInTile w.rect (tile_at w.key (changed_at key f es))
   lies_by key f keeps w es true e h =
       let same : key ≡ w.key = key_same key w.key e in
       rw (same, at_changed w.key f es) (lies_in f keeps w.rect (tile_at w.key es) h)

@@ -37,7 +37,7 @@ module _ {R : Type 0} where
   touch_keeps key tiles = same_found tiles (touched key tiles) (λ q. at_touched key q tiles)
 
   swap_by : (key : TileKey) (note : R) (tiles : TileList R) (q : TileKey) (t u : Tile R) (b : Bool) → same_key key q ≡ b
-    → tile_at q tiles ≡ Some t → tile_at q (changed_at key (with_note note) tiles) ≡ Some u → (u.rect ≡ t.rect) × (u.planes ≡ t.planes)
+      → tile_at q tiles ≡ Some t → tile_at q (changed_at key (with_note note) tiles) ≡ Some u → (u.rect ≡ t.rect) × (u.planes ≡ t.planes)
   swap_by key note tiles q t u true e before after =
       let same : key ≡ q = key_same key q e in
       let found = sym (at_changed q (with_note note) tiles ∙ ap (option_map (with_note note)) before) ∙ (rw same at after) in
@@ -48,7 +48,7 @@ module _ {R : Type 0} where
   swap_keeps key note tiles q t u before after = swap_by key note tiles q t u (same_key key q) refl before after
 
   put_by : (key : TileKey) (new : Tile R) (tiles : TileList R) → tile_at key tiles ≡ None → (q : TileKey) (t u : Tile R) (b : Bool) → same_key q key ≡ b
-    → tile_at q tiles ≡ Some t → tile_at q ((key, new) ∷ tiles) ≡ Some u → (u.rect ≡ t.rect) × (u.planes ≡ t.planes)
+      → tile_at q tiles ≡ Some t → tile_at q ((key, new) ∷ tiles) ≡ Some u → (u.rect ≡ t.rect) × (u.planes ≡ t.planes)
   put_by key new tiles none q t u true e before after = let same : q ≡ key = key_same q key e in let h : None ≡ Some t = sym none ∙ (rw same at before) in absurd cc
   put_by key new tiles none q t u false e before after = some_same t u (sym before ∙ (rw e at after))
 
@@ -56,7 +56,7 @@ module _ {R : Type 0} where
   put_keeps key rect note tiles none q t u = put_by key (blank_tile rect note) tiles none q t u (same_key q key) refl
 
   remove_by : (key q : TileKey) (tiles : TileList R) (t u : Tile R) (b : Bool) → same_key key q ≡ b → tile_at q (without key tiles) ≡ cond b None (tile_at q tiles)
-    → tile_at q tiles ≡ Some t → tile_at q (without key tiles) ≡ Some u → (u.rect ≡ t.rect) × (u.planes ≡ t.planes)
+      → tile_at q tiles ≡ Some t → tile_at q (without key tiles) ≡ Some u → (u.rect ≡ t.rect) × (u.planes ≡ t.planes)
   remove_by key q tiles t u true e found before after = let h : None ≡ Some u = sym found ∙ after in absurd cc
   remove_by key q tiles t u false e found before after = some_same t u (sym before ∙ sym found ∙ after)
 
@@ -85,41 +85,41 @@ module _ {R : Type 0} where
   written rect p y bytes t = with_part p (row_of t.rect y) (column_of t.rect rect.x0) bytes t.planes
 
   part : (t : Tile R) (rect : Bounds) (p : Plane) (y : ℤ) (bytes : List ℕ) → IsTile t → IsWithin t.rect rect → HasRow rect y → rect.x0 <ℤ rect.x1 → length bytes ≡ width_of rect
-    → IsPartWritten t.planes (written rect p y bytes t) p (row_of t.rect y) (column_of t.rect rect.x0) bytes
+      → IsPartWritten t.planes (written rect p y bytes t) p (row_of t.rect y) (column_of t.rect rect.x0) bytes
   part t rect p y bytes i w row across long =
       let outer = row_within t.rect rect y w row in
       part_is_written t.planes p (row_of t.rect y) (column_of t.rect rect.x0) bytes i.whole
-        (rw i.height (let a = outer.top in let b = outer.bottom in omega (arith, ints)))
-        (rw (i.width, long) (let a = w.left in let b = w.right in omega (arith, ints)))
+      (rw i.height (let a = outer.top in let b = outer.bottom in omega (arith, ints)))
+      (rw (i.width, long) (let a = w.left in let b = w.right in omega (arith, ints)))
 
   pub row_written : (t : Tile R) (rect : Bounds) (p : Plane) (y : ℤ) (bytes : List ℕ) → IsTile t → IsWithin t.rect rect → HasRow rect y → rect.x0 <ℤ rect.x1 → length bytes ≡ width_of rect
-    → IsRowWritten t (with_part_in rect p y bytes t) rect p y bytes
+      → IsRowWritten t (with_part_in rect p y bytes t) rect p y bytes
   row_written t rect p y bytes i w row across long =
       let done = part t rect p y bytes i w row across long in
       record {
         same_rect = refl;
         same_note = refl;
         inside = λ k h. let a = w.left in let at : column_of t.rect (rect.x0 +ℤ pos k) ≡ column_of t.rect rect.x0 + k = omega (arith, ints) in
-          ap (λ (c : ℕ). byte_at p (written rect p y bytes t) c (row_of t.rect y)) at ∙ done.inside k h;
+            ap (λ (c : ℕ). byte_at p (written rect p y bytes t) c (row_of t.rect y)) at ∙ done.inside k h;
         outside = λ x z there apart. same_row x z (inside t.rect x z there) apart done;
         other_planes = done.others;
       }
     where
       elsewhere : (x z : ℤ) → IsInside t.rect x z → (z ≢ y) ⊎ (x <ℤ rect.x0) ⊎ (rect.x1 ≤ℤ x)
-        → (row_of t.rect z ≢ row_of t.rect y) ⊎ (column_of t.rect x < column_of t.rect rect.x0) ⊎ (column_of t.rect rect.x0 + length bytes ≤ column_of t.rect x)
+          → (row_of t.rect z ≢ row_of t.rect y) ⊎ (column_of t.rect x < column_of t.rect rect.x0) ⊎ (column_of t.rect rect.x0 + length bytes ≤ column_of t.rect x)
       elsewhere x z there (inl rows) = let a = there.top in let b = w.top in let c = row.top in inl (λ e. rows (omega (arith, ints, e, a, b, c)))
       elsewhere x z there (inr (inl left)) = let a = there.left in inr (inl (omega (arith, ints)))
       elsewhere x z there (inr (inr right)) = let a = there.left in let b = w.left in inr (inr (rw long (omega (arith, ints))))
 
       same_row : (x z : ℤ) → IsInside t.rect x z → (z ≢ y) ⊎ (x <ℤ rect.x0) ⊎ (rect.x1 ≤ℤ x) → IsPartWritten t.planes (written rect p y bytes t) p (row_of t.rect y) (column_of t.rect rect.x0) bytes
-        → tile_byte p (with_part_in rect p y bytes t) x z ≡ tile_byte p t x z
+          → tile_byte p (with_part_in rect p y bytes t) x z ≡ tile_byte p t x z
       same_row x z there apart done = done.outside (column_of t.rect x) (row_of t.rect z) (rw i.width (let a = there.left in let b = there.right in omega (arith, ints))) (elsewhere x z there apart)
 
   window_tile : (w : Window) (es : TileList R) → LiesInItsTile (Some w) es → (t : Tile R) → tile_at w.key es ≡ Some t → Covers t.rect w.rect
   window_tile w es h t e = rw e at h
 
   window_written : (store : StoreModel R) (window : Window) (p : Plane) (y : ℤ) (bytes : List ℕ) → IsStore store → LiesInItsTile (Some window) store.tiles → HasWindowRow (Some window) y → length bytes ≡ width_of window.rect
-    → IsWindowWritten store (record store { tiles = changed_at window.key (with_part_in window.rect p y bytes) store.tiles }) window p y bytes
+      → IsWindowWritten store (record store { tiles = changed_at window.key (with_part_in window.rect p y bytes) store.tiles }) window p y bytes
   window_written store window p y bytes s lies row long = record {
     store = store_changed window.key (with_part_in window.rect p y bytes) (λ t. refl) (tile_written window.rect p y bytes) store s;
     same_window = refl;
@@ -130,12 +130,13 @@ module _ {R : Type 0} where
       with_part_in window.rect p y bytes before,
       at_changed window.key (with_part_in window.rect p y bytes) store.tiles ∙ ap (option_map (with_part_in window.rect p y bytes)) found,
       row_written before window.rect p y bytes (tile_in window.key store.tiles before s.tiles found)
-        (within before.rect window.rect (window_tile window store.tiles lies before found) row.0 (down_from window.rect y row.1)) row.1 row.0 long);
+          (within before.rect window.rect (window_tile window store.tiles lies before found) row.0 (down_from window.rect y row.1)) row.1 row.0 long,
+    );
   }
 
   window_by : (tiles : TileList R) (open_is : Option Window) (opened : ℕ) (window : Window) (p : Plane) (y : ℤ) (bytes : List ℕ) → IsStore (record { tiles = tiles; window = open_is; opened = opened }) → open_is ≡ Some window
-    → HasWindowRow (Some window) y → length bytes ≡ width_of window.rect
-    → IsWindowWritten (record { tiles = tiles; window = open_is; opened = opened }) (with_window_row p y bytes (record { tiles = tiles; window = open_is; opened = opened })) window p y bytes
+      → HasWindowRow (Some window) y → length bytes ≡ width_of window.rect
+      → IsWindowWritten (record { tiles = tiles; window = open_is; opened = opened }) (with_window_row p y bytes (record { tiles = tiles; window = open_is; opened = opened })) window p y bytes
   window_by tiles None opened window p y bytes s is row long = cc
   window_by tiles (Some w) opened window p y bytes s is row long =
       let same : w ≡ window = cc in

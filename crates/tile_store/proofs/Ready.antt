@@ -72,7 +72,7 @@ module _ {R : Type 0} (es : TileList R) (o : OpenWindow) (planes : PlanesModel) 
       let after = with_part p (row_of o.tile y) (column_of o.tile o.window.rect.x0) bytes planes in
       let write = with_part_in o.window.rect p y bytes in
       let same : changed_at o.window.key (with_planes after) es ≡ changed_at o.window.key write (changed_at o.window.key (with_planes planes) es) =
-        changed_ext o.window.key (with_planes after) (λ u. write (with_planes planes u)) es t h (rw (← r) refl) ∙ sym (changed_twice o.window.key write (with_planes planes) es) in
+      changed_ext o.window.key (with_planes after) (λ u. write (with_planes planes u)) es t h (rw (← r) refl) ∙ sym (changed_twice o.window.key write (with_planes planes) es) in
       ap (λ (tiles : TileList R). let s : StoreModel R = record { tiles = tiles; window = Some o.window; opened = n } in s) same
 
 -- ---- planes that are written stay whole
@@ -91,7 +91,7 @@ whole_written p y x bytes planes h =
       wide = rw (width_with planes new p) h.wide;
       high = rw (height_with planes new p) h.high;
       each = λ q. rw (width_with planes new p, height_with planes new p)
-        (lengths_with planes new (planes.height * planes.width) p (length_overwritten (plane_of p planes) (index_of planes x y) bytes ∙ h.each p) h.each q);
+          (lengths_with planes new (planes.height * planes.width) p (length_overwritten (plane_of p planes) (index_of planes x y) bytes ∙ h.each p) h.each q);
     }
 
 module _ {R : Type 0} where
@@ -110,4 +110,4 @@ module _ {R : Type 0} where
       → IsStore (record { tiles = put_back es (Some o) (with_part p (row_of o.tile y) (column_of o.tile o.window.rect.x0) bytes planes); window = Some o.window; opened = n })
   store_written es o planes n p y bytes i s =
       rw (written_backed es o planes n p y bytes i)
-        (store_changed o.window.key (with_part_in o.window.rect p y bytes) (λ t. refl) (tile_written o.window.rect p y bytes) (record { tiles = put_back es (Some o) planes; window = Some o.window; opened = n }) s)
+      (store_changed o.window.key (with_part_in o.window.rect p y bytes) (λ t. refl) (tile_written o.window.rect p y bytes) (record { tiles = put_back es (Some o) planes; window = Some o.window; opened = n }) s)

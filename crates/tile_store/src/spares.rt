@@ -46,9 +46,9 @@ impl Spares {
     {
         self.fit(width, height);
         match self.planes.pop() {
-            Some(mut planes) => {
-                planes.clear();
-                Ok(planes)
+            Some(mut spare) => {
+                spare.clear();
+                Ok(spare)
             }
             None => Planes::new(alloc, width, height),
         }

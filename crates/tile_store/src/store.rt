@@ -248,11 +248,11 @@ impl<R: Drop> TileStore<R> {
           opened = opened_after self.old.opened (area_of rect);
         } }
     {
-        let tile = self.tiles.peek_mut(&key).unwrap();
-        mem::swap(&mut tile.planes, &mut self.lent);
+        let kept = self.tiles.peek_mut(&key).unwrap();
+        mem::swap(&mut kept.planes, &mut self.lent);
         self.window = Some(OpenWindow {
             window: Window { key, rect },
-            tile: tile.rect,
+            tile: kept.rect,
         });
         self.opened = self.opened.saturating_add(rect.area());
     }

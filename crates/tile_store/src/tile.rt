@@ -74,6 +74,8 @@ impl<'a, R> TileView<'a, R> {
         ensures green { result.g.now ≡ tile_row G y self.now }
         ensures red { result.r.now ≡ tile_row Red y self.now }
         ensures alpha { result.a.now ≡ tile_row A y self.now }
+        ensures len { (length result.b.now ≡ width_of self.now.rect) × (length result.g.now ≡ width_of self.now.rect)
+            × (length result.r.now ≡ width_of self.now.rect) × (length result.a.now ≡ width_of self.now.rect) }
     {
         self.planes.rows(row_in(self.rect, y))
     }

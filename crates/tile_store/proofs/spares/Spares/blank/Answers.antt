@@ -11,7 +11,7 @@ returns c =
     let high : c.self.inside.height ≡ c.args.height = search rules in
     elim c.match-pop.branch [
       | in-Some w ↦
-          let sides : HasSides c.self.inside.width c.self.inside.height w.in-Some.planes = (All-pop (HasSides c.self.inside.width c.self.inside.height) _ _ (Some w.in-Some.planes) w.in-Some.ensures.items c.self.invariant.sides).1 in
-          rw (w.result-is, w.clear.ensures, sides.wide, sides.high, wide, high) refl
+          let sides : HasSides c.self.inside.width c.self.inside.height w.in-Some.spare = (All-pop (HasSides c.self.inside.width c.self.inside.height) _ _ (Some w.in-Some.spare) w.in-Some.ensures.items c.self.invariant.sides).1 in
+          rw w.result-is (search (rules, sides.wide, sides.high, wide, high))
       | in-None w ↦ rw w.result-is (ok_blank c.args.width c.args.height w.new.result w.new.ensures.width w.new.ensures.height w.new.ensures.zeros)
     ]

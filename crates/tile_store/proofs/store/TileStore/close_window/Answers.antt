@@ -10,7 +10,7 @@ invariant_of-self g c =
     let here : tile_at c.unwrap-current.result.window.key c.self.inside.tiles.entries ≡ Some c.unwrap-tile.result.now = search rules in
     let old = rw win at c.self.invariant.2 in
     rw (c.swap.ensures.x_after, set_is_changed c.unwrap-current.result.window.key (with_planes c.self.inside.lent) c.self.inside.tiles.entries c.unwrap-tile.result.now here)
-      (c.self.invariant.0, tt, record { count = old.count; tiles = old.tiles; window = tt })
+    (c.self.invariant.0, tt, record { count = old.count; tiles = old.tiles; window = tt })
 
 pub returns : goal.returns
 returns g c =

@@ -16,9 +16,11 @@ invariant_of-self-in-Ok-None g c =
     let room = rw (← c.self.view_is) at c.requires.room in
     let same = length_backed es c.self.inside.window c.self.inside.lent in
     let fits : length es ≤ c.self.inside.tiles.cap - 1 = rw c.self.invariant.0 (omega (arith, room, same)) in
-    rw (c.in-Ok-None.ensures.entries, put_new same_key c.self.inside.tiles c.args.key _ none fits, put_backed es c.self.inside.window c.self.inside.lent c.args.key _ none c.self.invariant.1, c.in-Ok.ensures, c.sides_of-width.ensures.width, c.sides_of-width.ensures.height)
-      (c.self.invariant.0, open_put es c.self.inside.window c.args.key _ none c.self.invariant.1,
-       store_put _ c.args.key (blank_tile c.args.rect c.args.note) unseen room (blank_is_tile c.args.rect c.args.note c.sides_of-width.ensures.rect c.requires.sides) c.self.invariant.2)
+    rw (c.in-Ok-None.ensures.entries, put_new same_key c.self.inside.tiles c.args.key _ none fits, put_backed es c.self.inside.window c.self.inside.lent c.args.key _ none c.self.invariant.1, c.in-Ok.ensures, c.sides_of-width.ensures.width, c.sides_of-width.ensures.height) (
+      c.self.invariant.0,
+      open_put es c.self.inside.window c.args.key _ none c.self.invariant.1,
+      store_put _ c.args.key (blank_tile c.args.rect c.args.note) unseen room (blank_is_tile c.args.rect c.args.note c.sides_of-width.ensures.rect c.requires.sides) c.self.invariant.2,
+    )
 
 pub returns-in-Ok-None-clause-kept : goal.returns-in-Ok-None-clause-kept
 returns-in-Ok-None-clause-kept g c =

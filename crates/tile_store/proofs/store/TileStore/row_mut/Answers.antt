@@ -27,7 +27,7 @@ row_in-requires-clause-row g c =
     let r = ready c.self.inside.tiles.entries c.unwrap-window.result c.self.inside.lent c.self.inside.opened (rw win at c.self.invariant.1) (rw win at c.self.invariant.2) in
     let asked : HasWindowRow (Some c.unwrap-window.result.window) c.args.y = rw (← c.self.view_is, win) at c.requires in
     let row : HasRow c.unwrap-window.result.tile c.args.y = row_within c.unwrap-window.result.tile c.unwrap-window.result.window.rect c.args.y
-      (within c.unwrap-window.result.tile c.unwrap-window.result.window.rect r.covers asked.0 (down_from c.unwrap-window.result.window.rect c.args.y asked.1)) asked.1 in
+    (within c.unwrap-window.result.tile c.unwrap-window.result.window.rect r.covers asked.0 (down_from c.unwrap-window.result.window.rect c.args.y asked.1)) asked.1 in
     search (rules, to_z-of_z, row)
 
 pub row_mut-requires-clause-row : goal.row_mut-requires-clause-row
@@ -45,7 +45,7 @@ invariant_of-self-lent g c = λ bytes.
     let win : c.self.inside.window ≡ Some c.unwrap-window.result = search rules in
     let at : c.row_in.result ≡ row_of c.unwrap-window.result.tile c.args.y = search (rules, to_z-of_z) in
     rw (win, at, c.columns_in-from.ensures.from)
-      (c.self.invariant.0, rw win at c.self.invariant.1, store_written c.self.inside.tiles.entries c.unwrap-window.result c.self.inside.lent c.self.inside.opened c.args.p c.args.y bytes (rw win at c.self.invariant.1) (rw win at c.self.invariant.2))
+    (c.self.invariant.0, rw win at c.self.invariant.1, store_written c.self.inside.tiles.entries c.unwrap-window.result c.self.inside.lent c.self.inside.opened c.args.p c.args.y bytes (rw win at c.self.invariant.1) (rw win at c.self.invariant.2))
 
 pub returns : goal.returns
 returns g c =
@@ -53,8 +53,7 @@ returns g c =
     let at : c.row_in.result ≡ row_of c.unwrap-window.result.tile c.args.y = search (rules, to_z-of_z) in
     let kept = rw win at c.self.invariant.1 in
     let to = c.columns_in-from.ensures.to in
-    let wide : c.columns_in-from.result.1 - c.columns_in-from.result.0 ≡ width_of c.unwrap-window.result.window.rect = omega (arith, to) in
-    (
+    let wide : c.columns_in-from.result.1 - c.columns_in-from.result.0 ≡ width_of c.unwrap-window.result.window.rect = omega (arith, to) in (
       (refl, λ bytes. rw (← c.self.view_is, win, at, c.columns_in-from.ensures.from) (written_backed c.self.inside.tiles.entries c.unwrap-window.result c.self.inside.lent c.self.inside.opened c.args.p c.args.y bytes kept)),
       record {
         writes_back = tt;

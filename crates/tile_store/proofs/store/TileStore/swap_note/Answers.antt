@@ -11,11 +11,12 @@ unwrap-tile-requires g c =
 
 pub invariant_of-self : goal.invariant_of-self
 invariant_of-self g c =
-    let here : tile_at c.args.key c.self.inside.tiles.entries ≡ Some c.unwrap-tile.result.now = search rules in
-    (c.self.invariant.0,
+    let here : tile_at c.args.key c.self.inside.tiles.entries ≡ Some c.unwrap-tile.result.now = search rules in (
+      c.self.invariant.0,
       open_noted c.self.inside.tiles.entries c.self.inside.window c.args.key c.unwrap-tile.result.now _ here c.self.invariant.1,
       rw (noted_backed c.self.inside.tiles.entries c.self.inside.window c.self.inside.lent c.args.key c.unwrap-tile.result.now c.replace.new.dest here)
-        (store_changed c.args.key (with_note c.replace.new.dest) (λ t. refl) (λ t i. record { rect = i.rect; sides = i.sides; width = i.width; height = i.height; whole = i.whole }) _ c.self.invariant.2))
+          (store_changed c.args.key (with_note c.replace.new.dest) (λ t. refl) (λ t i. record { rect = i.rect; sides = i.sides; width = i.width; height = i.height; whole = i.whole }) _ c.self.invariant.2),
+    )
 
 pub returns-clause-old : goal.returns-clause-old
 returns-clause-old g c =
