@@ -1,6 +1,6 @@
 //! Covering a part of a row: an open interval is cut where the part begins and ends.
 
-ghost use Rattle.std.specs.Prelude.{◌≡◌, ◌≤◌, ◌<◌, ℕ, length, None};
+ghost use Rattle.std.specs.Prelude.{◌≡◌, ◌≤◌, ◌<◌, ◌+◌, ℕ, length, None};
 ghost use Rattle.std.specs.Vec.{vec_capacity};
 ghost use Rattle.batching.specs.Intervals.{interval_at, end_at, begin_at, last_end, depth_in, AreIntervals, IsFrom, IsGiven, IsSameRow};
 
@@ -44,7 +44,7 @@ fn give(intervals: &mut Vec<Interval>, i: usize, end: u16, depth: u32)
     requires are { AreIntervals intervals.old.items }
     requires room { last_end intervals.old.items ≤ vec_capacity intervals.old }
     requires within { i < length intervals.old.items }
-    requires open { (interval_at intervals.old.items i).depth ≡ None }
+    requires uncovered { (interval_at intervals.old.items i).depth ≡ None }
     requires left { begin_at intervals.old.items i < end }
     requires right { end ≤ end_at intervals.old.items i }
     ensures row { IsSameRow intervals.old.items intervals.new.items }
@@ -52,14 +52,14 @@ fn give(intervals: &mut Vec<Interval>, i: usize, end: u16, depth: u32)
     ensures given { IsGiven intervals.old.items intervals.new.items (begin_at intervals.old.items i) end depth }
     ensures from { IsFrom intervals.new.items (i + 1) end }
 {
-    if end == intervals[i].end {
-        intervals[i].depth = Some(depth);
-        return;
-    }
     let front = Interval {
         end,
         depth: Some(depth),
     };
+    if end == intervals[i].end {
+        intervals[i] = front;
+        return;
+    }
     intervals.insert(i, front).unwrap();
 }
 
