@@ -1,5 +1,5 @@
 -- A depth given to open places.
-use Rattle.std.proofs.Common.{◌≡◌, ◌≤◌, ◌<◌, ◌+◌, ◌-◌, ◌⊎◌, ℕ, zero, suc, List, [], ◌∷◌, length, Option, Some, None, true, is_some, nat_lt, if◌then◌else◌, get_or, sym, ap, refl, ◌∙◌, ⊎_elim, arith, rules}
+use Rattle.std.proofs.Common.{◌≡◌, ◌≤◌, ◌<◌, ◌+◌, ◌-◌, ℕ, zero, suc, List, [], ◌∷◌, length, Option, Some, None, true, is_some, nat_lt, if◌then◌else◌, sym, ap, refl, ◌∙◌, ⊎_elim, arith}
 use Rattle.std.proofs.lemmas.Bool.{cases_lt}
 use Rattle.std.proofs.lemmas.Grind.{common_steps}
 use Rattle.std.specs.List.{insert}
@@ -7,7 +7,7 @@ use Rattle.std.proofs.Math.ListN.{set, length-set}
 use Rattle.std.proofs.lemmas.List.Edits.{length-insert}
 use Rattle.batching.specs.declared.intervals.Interval.{Interval}
 use Rattle.batching.specs.Depths.{or_depth}
-use Rattle.batching.specs.Intervals.{interval_at, end_at, begin_at, last_end, depth_in, AreIntervals, IsFrom, IsGiven, IsSameRow}
+use Rattle.batching.specs.Intervals.{interval_at, end_at, begin_at, depth_in, AreIntervals, IsFrom, IsGiven}
 use Rattle.batching.proofs.Places.{depth_in-at, ends_rise}
 use Rattle.batching.proofs.Inserts.{IsFront, depth-before, depth-new, depth-behind, end-begin, end-below, end-new, end-above}
 

@@ -1,12 +1,12 @@
 -- An interval put in front of another, which it shortens.
-use Rattle.std.proofs.Common.{◌≡◌, ◌≤◌, ◌<◌, ◌+◌, ◌-◌, ◌⊎◌, ℕ, zero, suc, List, [], ◌∷◌, ◌++◌, length, take, drop, Option, None, Bool, nat_lt, if◌then◌else◌, get_or, sym, ap, refl, ◌∙◌, ⊎_elim, subst, arith, rules}
+use Rattle.std.proofs.Common.{◌≡◌, ◌≤◌, ◌<◌, ◌+◌, ◌-◌, ℕ, zero, suc, List, [], ◌∷◌, length, nat_lt, if◌then◌else◌, sym, ap, ◌∙◌, ⊎_elim, arith}
 use Rattle.std.proofs.lemmas.Bool.{cases_lt}
 use Rattle.std.proofs.lemmas.Grind.{common_steps}
 use Rattle.std.specs.List.{insert}
 use Rattle.std.proofs.lemmas.List.Edits.{length-insert, get_or-insert_below, get_or-insert_at, get_or-insert_above}
 use Rattle.batching.specs.declared.intervals.Interval.{Interval}
-use Rattle.batching.specs.Intervals.{interval_at, end_at, begin_at, last_end, depth_in, AreIntervals, IsFrom, IsSameRow}
-use Rattle.batching.proofs.Places.{ends_rise, begin-end, climbs, depth_in-at}
+use Rattle.batching.specs.Intervals.{interval_at, end_at, begin_at, last_end, depth_in, AreIntervals, IsSameRow}
+use Rattle.batching.proofs.Places.{ends_rise, climbs, depth_in-at}
 
 -- the interval of a number below, at and above that of the new one
 pub interval-below : (is : List Interval) (i : ℕ) (p : Interval) (j : ℕ) → i ≤ length is → j < i → interval_at (insert is i p) j ≡ interval_at is j

@@ -1,11 +1,11 @@
 -- Parts of a row, by the depths of its intervals.
-use Rattle.std.proofs.Common.{◌≡◌, ◌≤◌, ◌<◌, ◌+◌, ◌-◌, ◌⊎◌, ℕ, List, Option, None, Bool, true, false, not, sym, ap, subst, ◌∙◌, inl, inr, ⊎_elim, arith, rules}
+use Rattle.std.proofs.Common.{◌≡◌, ◌≤◌, ◌<◌, ℕ, List, Option, None, Bool, true, false, ap, ◌∙◌, inl, inr, ⊎_elim, arith}
 use Rattle.std.proofs.lemmas.Bool.{cases_lt}
 use Rattle.std.proofs.lemmas.List.FromFn.{get_or-map-range_with_len}
 use Rattle.batching.specs.declared.intervals.Interval.{Interval}
 use Rattle.batching.specs.declared.intervals.Spot.{Spot}
-use Rattle.batching.specs.Depths.{Depths, depth_at, AllPass, NonePass, IsLeftmostPart}
-use Rattle.batching.specs.Intervals.{end_at, last_end, depth_in, depths_of, IsSought}
+use Rattle.batching.specs.Depths.{depth_at, IsLeftmostPart}
+use Rattle.batching.specs.Intervals.{depth_in, depths_of, IsSought}
 
 -- the depth at a place of the row
 pub depth-row : (width : ℕ) (is : List Interval) (k : ℕ) → k < width → depth_at (depths_of width is) k ≡ depth_in is k

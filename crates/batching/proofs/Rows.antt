@@ -1,12 +1,12 @@
 -- The depths of a row, by those of its intervals.
-use Rattle.std.proofs.Common.{◌≡◌, ◌≤◌, ◌<◌, ◌+◌, ◌-◌, ℕ, zero, suc, List, [], ◌∷◌, length, replicate, Option, Some, None, Bool, true, false, nat_lt, if◌then◌else◌, max, get_or, sym, ap, refl, ◌∙◌, ⊎_elim, arith, rules}
+use Rattle.std.proofs.Common.{◌≡◌, ◌≤◌, ◌<◌, ℕ, zero, suc, List, length, replicate, Option, Some, None, Bool, false, max, sym, ap, refl, ◌∙◌, ⊎_elim, arith}
 use Rattle.std.proofs.lemmas.Bool.{cases_lt}
 use Rattle.std.proofs.lemmas.Grind.{common_steps}
 use Rattle.std.proofs.lemmas.List.{get_or-replicate, length-replicate, get_or_past}
 use Rattle.std.proofs.lemmas.List.FromFn.{length-map-range_with_len, fill_by_all}
 use Rattle.batching.specs.declared.intervals.Interval.{Interval}
-use Rattle.batching.specs.Depths.{Depths, depth_at, or_depth, is_open, NonePass, IsLeftmostPart, FindsLeftmost}
-use Rattle.batching.specs.Intervals.{depth_in, depths_of, open_row, last_end, IsGiven, IsWhole}
+use Rattle.batching.specs.Depths.{Depths, depth_at, or_depth, is_open, NonePass, FindsLeftmost}
+use Rattle.batching.specs.Intervals.{depth_in, depths_of, open_row, IsGiven, IsWhole}
 use Rattle.batching.proofs.Parts.{depth-row}
 
 -- a row has so many places

@@ -3,7 +3,7 @@ use Rattle.std.specs.Prelude.{◌≡◌, ◌≤◌, ◌<◌, ◌-◌, ℕ, zero,
 use Rattle.std.specs.List.{range_with_len}
 use Rattle.batching.specs.declared.intervals.Interval.{Interval}
 use Rattle.batching.specs.declared.intervals.Spot.{Spot}
-use Rattle.batching.specs.Depths.{Depths, depth_at, is_open, is_at_most, or_depth}
+use Rattle.batching.specs.Depths.{Depths, is_open, is_at_most, or_depth}
 
 -- the interval of this number; beyond the last one it is empty
 abbrev pub interval_at : List Interval → ℕ → Interval

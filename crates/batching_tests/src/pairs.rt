@@ -131,14 +131,25 @@ fn pairs_agree(cover: &mut Cover, row: &mut [Option<u32>], first: (u16, u16)) ->
     true
 }
 
+/// Whether both agree for each part and each other part after it.
+fn all_pairs_agree(cover: &mut Cover, row: &mut [Option<u32>]) -> bool
+    requires width { length cover.old ≡ WIDTH }
+    requires row { length row.old ≡ WIDTH }
+{
+    for x1 in 0..WIDTH + 1 {
+        for x0 in 0..x1 + 1 {
+            if !pairs_agree(cover, row, (x0, x1)) {
+                return false;
+            }
+        }
+    }
+    true
+}
+
 #[test]
 fn two_parts_leave_what_a_plain_array_has(rt: HostRuntime) -> Result<(), Fail> {
     let mut cover = Cover::new(rt.alloc(), WIDTH)?;
     let mut row = [None; 12];
-    for x1 in 0..WIDTH + 1 {
-        for x0 in 0..x1 + 1 {
-            assert!(rt; pairs_agree(&mut cover, &mut row, (x0, x1)), "{x0} to {x1}");
-        }
-    }
+    assert!(rt; all_pairs_agree(&mut cover, &mut row));
     Ok(())
 }

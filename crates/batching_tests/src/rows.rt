@@ -1,5 +1,7 @@
 //! Rows whose answers are written out, and the narrowest and the widest row.
 
+ghost use Rattle.std.specs.Prelude.{◌≡◌, ◌≤◌, length};
+
 use batching::Cover;
 use std::test::Fail;
 
@@ -20,6 +22,17 @@ fn a_part_covered_twice_keeps_its_depth(rt: HostRuntime) -> Result<(), Fail> {
 }
 
 #[test]
+fn a_row_opens_again(rt: HostRuntime) -> Result<(), Fail> {
+    let mut cover = Cover::new(rt.alloc(), 10)?;
+    cover.cover(0, 10, 3);
+    cover.reset();
+    assert_eq!(rt; cover.next_open(0, 10), Some((0, 10)));
+    cover.cover(4, 10, 2);
+    assert_eq!(rt; cover.next_above(0, 10, 1), Some((0, 4)));
+    Ok(())
+}
+
+#[test]
 fn a_row_without_a_pixel_has_no_part(rt: HostRuntime) -> Result<(), Fail> {
     let mut cover = Cover::new(rt.alloc(), 0)?;
     cover.cover(0, 0, 1);
@@ -30,17 +43,23 @@ fn a_row_without_a_pixel_has_no_part(rt: HostRuntime) -> Result<(), Fail> {
     Ok(())
 }
 
-#[test]
-fn the_widest_row_can_be_cut_at_every_pixel(rt: HostRuntime) -> Result<(), Fail> {
-    let mut cover = Cover::new(rt.alloc(), 65_535)?;
-    for x in (0..65_534).rev() {
+/// Covers each place from 0 to before `end` by itself, with its number as depth.
+fn cover_each(cover: &mut Cover, end: u16)
+    requires { end ≤ length cover.old }
+    ensures { length cover.new ≡ length cover.old }
+{
+    for x in 0..end {
         cover.cover(x, x + 1, x.into());
     }
+}
+
+#[test]
+fn the_widest_row_takes_a_depth_at_every_pixel(rt: HostRuntime) -> Result<(), Fail> {
+    let mut cover = Cover::new(rt.alloc(), 65_535)?;
+    cover_each(&mut cover, 65_534);
     assert_eq!(rt; cover.next_open(0, 65_535), Some((65_534, 65_535)));
     assert_eq!(rt; cover.next_above(100, 65_535, 1_000), Some((100, 1_001)));
     cover.cover(0, 65_535, 1);
     assert_eq!(rt; cover.next_open(0, 65_535), None);
-    cover.reset();
-    assert_eq!(rt; cover.next_open(0, 65_535), Some((0, 65_535)));
     Ok(())
 }

@@ -1,8 +1,8 @@
-use Rattle.std.proofs.Common.{◌≡◌, ◌<◌, ◌≤◌, ◌+◌, ◌∙◌, None, sym, ap, arith}
+use Rattle.std.proofs.Common.{◌≡◌, ◌∙◌, None, sym, ap, arith}
 use Rattle.std.specs.Option.{is_some}
 use Rattle.std.proofs.lemmas.List.{get_or_default}
 use Rattle.batching.specs.declared.intervals.Interval.{Interval}
-use Rattle.batching.specs.Intervals.{interval_at, end_at, IsFrom}
+use Rattle.batching.specs.Intervals.{interval_at, end_at}
 use Rattle.batching.proofs.Places.{from-within, next_from}
 use Rattle.batching.proofs.Given.{given-covered}
 use Rattle.batching.proofs.edits.cover_one.Goals as goal

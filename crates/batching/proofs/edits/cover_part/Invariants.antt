@@ -1,4 +1,4 @@
-use Rattle.std.proofs.Common.{◌≡◌, ◌≤◌, ◌<◌, ◌-◌}
+use Rattle.std.proofs.Common.{◌≤◌, ◌<◌, ◌-◌}
 use Rattle.std.specs.Vec.{vec_capacity}
 use Rattle.batching.specs.Intervals.{IsFrom, IsGiven, IsSameRow}
 use Rattle.batching.proofs.edits.cover_part.Given as goal

@@ -1,7 +1,6 @@
-use Rattle.std.proofs.Common.{◌≡◌, ◌<◌, ◌∙◌, None, ap, arith}
+use Rattle.std.proofs.Common.{◌∙◌, None, ap, arith}
 use Rattle.std.proofs.lemmas.List.{get_or_default}
 use Rattle.batching.specs.declared.intervals.Interval.{Interval}
-use Rattle.batching.specs.Intervals.{interval_at}
 use Rattle.batching.proofs.Places.{from-within}
 use Rattle.batching.proofs.Inserts.{IsFront, inserted, depths-stay, more_places}
 use Rattle.batching.proofs.edits.cut.Goals as goal

@@ -1,7 +1,7 @@
 use Rattle.std.proofs.Common.{◌≡◌, ◌<◌, ◌∙◌, Some, None, refl, ap, arith}
 use Rattle.std.proofs.lemmas.List.{get_or_default}
 use Rattle.batching.specs.declared.intervals.Interval.{Interval}
-use Rattle.batching.specs.Intervals.{interval_at, end_at, begin_at}
+use Rattle.batching.specs.Intervals.{end_at}
 use Rattle.batching.proofs.Inserts.{IsFront, inserted, more_places}
 use Rattle.batching.proofs.Given.{given-front, from-front, given-whole, from-whole}
 use Rattle.batching.proofs.edits.give.Goals as goal

@@ -1,4 +1,4 @@
-use Rattle.std.proofs.Common.{◌≤◌, ◌<◌, ℕ, None, leb, arith, rules}
+use Rattle.std.proofs.Common.{None, leb, arith, rules}
 use Rattle.std.proofs.lemmas.List.Sorted.{IsNonDecreasingBy-from_default, IsPartitionedBy-leb, IsPartitionPoint-from_clause}
 use borrow.Author.Tests.{leb-true, leb-false}
 use Rattle.batching.specs.declared.intervals.Interval.{Interval}

@@ -1,5 +1,5 @@
-use Rattle.std.proofs.Common.{◌≡◌, ◌≤◌, arith}
-use Rattle.batching.specs.Depths.{depth_at, is_open}
+use Rattle.std.proofs.Common.{arith}
+use Rattle.batching.specs.Depths.{depth_at}
 use Rattle.batching.specs.Intervals.{depths_of}
 use Rattle.batching.proofs.Rows.{IsRowGiven, length-row, none-open, own-depth, row-given}
 use Rattle.batching.proofs.cover.Cover.cover.Goals as goal

@@ -1,5 +1,5 @@
-use Rattle.std.proofs.Common.{◌∙◌, ap, arith}
-use Rattle.batching.specs.Depths.{is_open, FindsLeftmost}
+use Rattle.std.proofs.Common.{arith}
+use Rattle.batching.specs.Depths.{is_open}
 use Rattle.batching.specs.Intervals.{depths_of}
 use Rattle.batching.proofs.Rows.{length-row, none-open, found-behind}
 use Rattle.batching.proofs.cover.Cover.next_open.Goals as goal
