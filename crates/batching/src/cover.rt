@@ -53,7 +53,8 @@ impl Cover {
 
     /// Opens every place.
     pub fn reset(&mut self)
-        ensures { self.new ≡ replicate (length self.old) None }
+        ensures width { length self.new ≡ length self.old }
+        ensures places { self.new ≡ replicate (length self.old) None }
     {
         self.open_from = 0;
         open_all(&mut self.intervals, self.width);
