@@ -24,8 +24,8 @@ given-front is i p depth f covered bare =
     let within = f.within in let right = f.right in
     record {
       part = λ k low high.
-        let before : (j : ℕ) → j < i → end_at is j ≤ k = λ j h. let e = end-begin is f.are j i h (omega arith) in omega arith in
-        depth-new is i p k (omega arith) before high ∙ covered
+          let before : (j : ℕ) → j < i → end_at is j ≤ k = λ j h. let e = end-begin is f.are j i h (omega arith) in omega arith in
+          depth-new is i p k (omega arith) before high ∙ covered
           ∙ sym (ap (or_depth depth) (depth-from is f.are i k within low (omega arith) ∙ bare));
       before = λ k low. depth-before is i p k low;
       after = λ k high. depth-behind is i p k high;
@@ -39,11 +39,11 @@ from-front is i p f =
     record {
       within = omega (arith, size);
       before = λ j h. ⊎_elim
-        (λ less. omega (arith, end-below is i p j (omega arith) less, end-begin is f.are j i less (omega arith)))
-        (λ here. omega (arith, end-new is i p j (omega arith) (omega arith)))
-        (cases_lt j i);
+          (λ less. omega (arith, end-below is i p j (omega arith) less, end-begin is f.are j i less (omega arith)))
+          (λ here. omega (arith, end-new is i p j (omega arith) (omega arith)))
+          (cases_lt j i);
       after = λ j low high. let m : ℕ = j - 1 in
-        omega (arith, end-above is i p j m (omega arith) (omega arith) (omega arith), ends_rise is f.are i m (omega arith) (omega (arith, size)));
+          omega (arith, end-above is i p j m (omega arith) (omega arith) (omega arith), ends_rise is f.are i m (omega arith) (omega (arith, size)));
     }
 
 -- an interval in the place of one that ends where it does
@@ -79,8 +79,8 @@ pub given-whole :
     → p.depth ≡ Some depth → (interval_at is i).depth ≡ None → IsGiven is (set is i p) (begin_at is i) p.end depth
 given-whole is i p depth are within e covered bare = record {
   part = λ k low high.
-    let before : (j : ℕ) → j < i → end_at is j ≤ k = λ j h. let e = end-begin is are j i h (omega arith) in omega arith in
-    set-inside is i p k within before high ∙ covered
+      let before : (j : ℕ) → j < i → end_at is j ≤ k = λ j h. let e = end-begin is are j i h (omega arith) in omega arith in
+      set-inside is i p k within before high ∙ covered
       ∙ sym (ap (or_depth depth) (depth-from is are i k within low (omega arith) ∙ bare));
   before = λ k low. set-before is i p k low;
   after = λ k high. set-behind is i p k e high;
@@ -101,9 +101,9 @@ pub given-both :
     (old mid new : List Interval) (x y z depth : ℕ) → x ≤ y → y ≤ z → IsGiven old mid x y depth → IsGiven mid new y z depth → IsGiven old new x z depth
 given-both old mid new x y z depth l m a b = record {
   part = λ k low high. ⊎_elim
-    (λ left. b.before k left ∙ a.part k low left)
-    (λ right. b.part k right high ∙ ap (or_depth depth) (a.after k right))
-    (cases_lt k y);
+      (λ left. b.before k left ∙ a.part k low left)
+      (λ right. b.part k right high ∙ ap (or_depth depth) (a.after k right))
+      (cases_lt k y);
   before = λ k low. b.before k (omega arith) ∙ a.before k low;
   after = λ k high. b.after k high ∙ a.after k (omega arith);
 }
@@ -119,8 +119,8 @@ pub given-covered :
     → IsGiven is is x to depth
 given-covered is i x to depth within from covered right = record {
   part = λ k low high.
-    let at = depth_in-at is i k within (λ j h. omega (arith, from.before j h)) (omega arith) in
-    kept depth (depth_in is k) (ap is_some at ∙ covered);
+      let at = depth_in-at is i k within (λ j h. omega (arith, from.before j h)) (omega arith) in
+      kept depth (depth_in is k) (ap is_some at ∙ covered);
   before = λ k low. refl;
   after = λ k high. refl;
 }

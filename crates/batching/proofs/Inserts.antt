@@ -98,24 +98,24 @@ rising-above is i p f a b m h e l within =
     let at = f.within in let right = f.right in
     let here = end-above is i p b m (omega arith) e l in
     ⊎_elim
-      (λ less. omega (arith, here, end-below is i p a (omega arith) less, f.are.rising a m (omega arith) within))
-      (λ more. ⊎_elim
-        (λ new. omega (arith, here, end-new is i p a (omega arith) (omega arith), ends_rise is f.are i m l within))
-        (λ behind. let n : ℕ = a - 1 in
-          omega (arith, here, end-above is i p a n (omega arith) (omega arith) (omega arith), f.are.rising n m (omega arith) within))
-        (cases_lt a (i + 1)))
-      (cases_lt a i)
+    (λ less. omega (arith, here, end-below is i p a (omega arith) less, f.are.rising a m (omega arith) within))
+    (λ more. ⊎_elim
+    (λ new. omega (arith, here, end-new is i p a (omega arith) (omega arith), ends_rise is f.are i m l within))
+    (λ behind. let n : ℕ = a - 1 in
+    omega (arith, here, end-above is i p a n (omega arith) (omega arith) (omega arith), f.are.rising n m (omega arith) within))
+    (cases_lt a (i + 1)))
+    (cases_lt a i)
 
 -- so the ends rise everywhere
 pub ends-rising : (is : List Interval) (i : ℕ) (p : Interval) → IsFront is i p → (a b : ℕ) → a < b → b < length is + 1 → end_at (insert is i p) a < end_at (insert is i p) b
 ends-rising is i p f a b h l =
     ⊎_elim
-      (λ less. rising-below is i p f a b h less)
-      (λ more. ⊎_elim
-        (λ new. rising-new is i p f a b h (omega arith))
-        (λ behind. rising-above is i p f a b (b - 1) h (omega arith) (omega arith) (omega arith))
-        (cases_lt b (i + 1)))
-      (cases_lt b i)
+    (λ less. rising-below is i p f a b h less)
+    (λ more. ⊎_elim
+    (λ new. rising-new is i p f a b h (omega arith))
+    (λ behind. rising-above is i p f a b (b - 1) h (omega arith) (omega arith) (omega arith))
+    (cases_lt b (i + 1)))
+    (cases_lt b i)
 
 -- a row with one interval more
 pub inserted : (is : List Interval) (i : ℕ) (p : Interval) → IsFront is i p → IsSameRow is (insert is i p)
@@ -125,9 +125,9 @@ inserted is i p f =
     record {
       are = record {
         first = λ h. ⊎_elim
-          (λ behind. omega (arith, end-below is i p 0 (omega arith) behind, f.are.first (omega arith)))
-          (λ here. omega (arith, end-new is i p 0 (omega arith) (omega arith)))
-          (cases_lt 0 i);
+            (λ behind. omega (arith, end-below is i p 0 (omega arith) behind, f.are.first (omega arith)))
+            (λ here. omega (arith, end-new is i p 0 (omega arith) (omega arith)))
+            (cases_lt 0 i);
         rising = λ a b h l. ends-rising is i p f a b h (omega (arith, size));
       };
       last = end-above is i p (length (insert is i p) - 1) (length is - 1) (omega arith) (omega (arith, size)) (omega arith);
@@ -138,11 +138,11 @@ pub depths-stay : (is : List Interval) (i : ℕ) (p : Interval) → IsFront is i
 depths-stay is i p f same k =
     let within = f.within in
     ⊎_elim
-      (λ low. depth-before is i p k low)
-      (λ high. ⊎_elim
-        (λ here.
-          let before : (j : ℕ) → j < i → end_at is j ≤ k = λ j h. let e = end-begin is f.are j i h (omega arith) in omega arith in
-          depth-new is i p k (omega arith) before here ∙ same ∙ sym (depth_in-at is i k within before (omega (arith, f.right))))
-        (λ behind. depth-behind is i p k behind)
-        (cases_lt k p.end))
-      (cases_lt k (begin_at is i))
+    (λ low. depth-before is i p k low)
+    (λ high. ⊎_elim
+    (λ here.
+    let before : (j : ℕ) → j < i → end_at is j ≤ k = λ j h. let e = end-begin is f.are j i h (omega arith) in omega arith in
+    depth-new is i p k (omega arith) before here ∙ same ∙ sym (depth_in-at is i k within before (omega (arith, f.right))))
+    (λ behind. depth-behind is i p k behind)
+    (cases_lt k p.end))
+    (cases_lt k (begin_at is i))

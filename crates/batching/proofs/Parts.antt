@@ -24,8 +24,8 @@ grows :
     → (y < to → test (depth_in is y) ≡ false) → x < y
 grows test is x y to inside here left there =
     ⊎_elim (λ h. h)
-      (λ h. let same : x ≡ y = omega arith in let end = there (omega arith) in cc (here, end, ap (λ k. test (depth_in is k)) same))
-      (cases_lt x y)
+    (λ h. let same : x ≡ y = omega arith in let end = there (omega arith) in cc (here, end, ap (λ k. test (depth_in is k)) same))
+    (cases_lt x y)
 
 -- the part between two sought places
 pub part_found :

@@ -69,13 +69,13 @@ pub none_in_interval :
     → (k : ℕ) → from ≤ k → k < end_at is i → test (depth_in is k) ≡ not sought
 none_in_interval test sought answer is i from x within at said differs none k low high =
     ⊎_elim (none k low)
-      (λ past. whole_interval test (not sought) is i x within at (sym said ∙ unlike answer sought differs) k past high)
-      (cases_lt k x)
+    (λ past. whole_interval test (not sought) is i x within at (sym said ∙ unlike answer sought differs) k past high)
+    (cases_lt k x)
 
 -- a place of the row is in one of the intervals
 pub from-within : (is : List Interval) (i x : ℕ) → IsFrom is i x → x < last_end is → i < length is
 from-within [] i x from h = absurd (omega arith)
 from-within (y ∷ is) i x from h =
     ⊎_elim (λ less. less)
-      (λ more. absurd (omega (arith, from.before (length is) (omega arith), from.within)))
-      (cases_lt i (length (y ∷ is)))
+    (λ more. absurd (omega (arith, from.before (length is) (omega arith), from.within)))
+    (cases_lt i (length (y ∷ is)))

@@ -25,14 +25,14 @@ depth-open (suc n) k = grind (arith, common_steps)
 pub row-open : (width : ℕ) → depths_of width (open_row width) ≡ replicate width None
 row-open width =
     sym (fill_by_all (depth_in (open_row width)) (replicate width None) width None (length-replicate width None)
-      (λ k h. get_or-replicate width k None None h ∙ sym (depth-open width k)))
+    (λ k h. get_or-replicate width k None None h ∙ sym (depth-open width k)))
 
 -- places of the intervals that stay are places of the row that stay
 pub row-stays : (width : ℕ) (old new : List Interval) (k : ℕ) → depth_in new k ≡ depth_in old k → depth_at (depths_of width new) k ≡ depth_at (depths_of width old) k
 row-stays width old new k same =
     ⊎_elim (λ h. depth-row width new k h ∙ same ∙ sym (depth-row width old k h))
-      (λ h. depth-past width new k h ∙ sym (depth-past width old k h))
-      (cases_lt k width)
+    (λ h. depth-past width new k h ∙ sym (depth-past width old k h))
+    (cases_lt k width)
 
 -- a covered place keeps its depth
 pub own-depth : (depth : ℕ) (o : Option ℕ) → is_open o ≡ false → o ≡ or_depth depth o
@@ -54,9 +54,9 @@ row-given width open_from x0 x1 from depth old new row view whole start inside g
     let size = length-row width old row view in
     record {
       part = λ k low high.
-        let was : depth_at row k ≡ depth_in old k = ap (λ r. depth_at r k) (sym view) ∙ depth-row width old k (omega arith) in
-        let is = depth-row width new k (omega arith) in
-        ⊎_elim
+          let was : depth_at row k ≡ depth_in old k = ap (λ r. depth_at r k) (sym view) ∙ depth-row width old k (omega arith) in
+          let is = depth-row width new k (omega arith) in
+          ⊎_elim
           (λ h. is ∙ given.before k h ∙ own-depth depth (depth_in old k) (whole.closed k (omega arith)) ∙ sym (ap (or_depth depth) was))
           (λ h. is ∙ given.part k h high ∙ sym (ap (or_depth depth) was))
           (cases_lt k from);

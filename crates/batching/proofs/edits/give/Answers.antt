@@ -15,7 +15,7 @@ whole c = record { end = c.args.end; depth = Some c.args.depth }
 whole-end : (c : goal.After-intervals-1) → c.args.end ≡ end_at c.args.intervals.now.items c.args.i
 whole-end c =
     c.if-end-index.true
-      ∙ ap (λ (p : Interval). p.end) (c.index.ensures ∙ get_or_default c.args.intervals.now.items c.args.i c.index.result.now nothing c.requires.within)
+    ∙ ap (λ (p : Interval). p.end) (c.index.ensures ∙ get_or_default c.args.intervals.now.items c.args.i c.index.result.now nothing c.requires.within)
 
 pub returns-then-end-index-clause-given : goal.returns-then-end-index-clause-given
 returns-then-end-index-clause-given c =

@@ -35,7 +35,7 @@ returns-then-end-to c =
     let inv = c.loop-interval.invariant in
     let i = c.loop-interval.interval in let x = c.loop-interval.x in
     let none = none_in_interval (passes c.args.limit) c.args.sought c.is_within.result c.args.intervals.now i c.args.spot.x x
-        (omega arith) inv.from c.is_within.ensures c.if-is_within-sought.false inv.before in
+    (omega arith) inv.from c.is_within.ensures c.if-is_within-sought.false inv.before in
     record {
       left = c.requires.order;
       right = omega arith;

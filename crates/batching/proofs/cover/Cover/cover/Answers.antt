@@ -26,7 +26,7 @@ with_hint :
 with_hint c =
     let s = c.self.inside in
     row-given s.width s.open_from c.args.x0 c.args.x1 c.max-from.result c.args.depth s.intervals.items c.cover_part.new.intervals.items
-      c.args.self.now c.self.view_is c.self.invariant.0 c.max-from.ensures c.requires.inside c.cover_part.ensures.given
+    c.args.self.now c.self.view_is c.self.invariant.0 c.max-from.ensures c.requires.inside c.cover_part.ensures.given
 
 pub returns-then-from-self-clause-part : goal.returns-then-from-self-clause-part
 returns-then-from-self-clause-part c = (with_hint c).part
@@ -43,7 +43,7 @@ as_it_was :
 as_it_was c =
     let s = c.self.inside in
     row-given s.width s.open_from c.args.x0 c.args.x1 c.max-from.result c.args.depth s.intervals.items c.cover_part.new.intervals.items
-      c.args.self.now c.self.view_is c.self.invariant.0 c.max-from.ensures c.requires.inside c.cover_part.ensures.given
+    c.args.self.now c.self.view_is c.self.invariant.0 c.max-from.ensures c.requires.inside c.cover_part.ensures.given
 
 pub returns-else-from-self-clause-part : goal.returns-else-from-self-clause-part
 returns-else-from-self-clause-part c = (as_it_was c).part
