@@ -5,7 +5,7 @@ use Rattle.std.proofs.lemmas.Int.{ints, clamps}
 use Rattle.std.proofs.lemmas.Bool.{cases_lt}
 use borrow.Rule.Slice.PartMut.{put_mid}
 use Rattle.std.proofs.lemmas.List.{places, get_or-set_same, get_or-set_other}
-use Rattle.wr_geom.specs.Bounds.{Bounds, holds}
+use Rattle.wr_geom.specs.Bounds.{Bounds}
 use Rattle.wr_geom.proofs.Points.{holds_it, misses_it}
 use Rattle.blend_rules.specs.declared.colour.Px.{Px}
 use Rattle.blend_rules.specs.declared.plane.Plane.{Plane}

@@ -1,4 +1,4 @@
-use Rattle.std.proofs.Common.{ℕ, ℤ, ◌≡◌, ◌+◌, pos, ◌+ℤ◌, ap, ap₂, sym, ◌∙◌, arith, to_z, of_z, w32, rules}
+use Rattle.std.proofs.Common.{ℕ, ℤ, pos, ◌+ℤ◌, ap, ◌∙◌, arith, to_z, of_z, w32, rules}
 use mir.Val.{SFits}
 use Rattle.std.proofs.lemmas.Int.{to_z-of_z}
 use Rattle.blend_rules.specs.declared.colour.Px.{Px}

@@ -1,10 +1,10 @@
-use Rattle.std.proofs.Common.{ℕ, ℤ, ◌≡◌, ◌≤ℤ◌, ◌<ℤ◌, ◌+◌, ◌-◌, pos, ◌+ℤ◌, ◌-ℤ◌, ap, ◌∙◌, arith, to_z, of_z, w32, inl, inr, length, get_or, sym, subst, T, not, refl, rules}
+use Rattle.std.proofs.Common.{◌≡◌, ◌≤ℤ◌, ◌<ℤ◌, pos, ◌+ℤ◌, ap, ◌∙◌, arith, to_z, of_z, w32, inl, inr, length, get_or, sym, subst, T, not, refl, rules}
 use mir.Val.{SFits}
-use Rattle.std.specs.Int.Signed.{lt_z, lt_z_yes, lt_z_no, le_z_yes}
+use Rattle.std.specs.Int.Signed.{lt_z_yes, lt_z_no, le_z_yes}
 use Rattle.std.proofs.lemmas.Int.{ints, to_z-of_z}
 use Rattle.std.proofs.lemmas.List.{get_or-replicate}
 use Rattle.wr_geom.specs.Bounds.{Bounds}
-use Rattle.primitives.proofs.Rows.{byte_above, row_is, pixel_same, le_no}
+use Rattle.primitives.proofs.Rows.{byte_above, row_is, le_no}
 use Rattle.primitives.proofs.row.colour_row.Goals as goal
 use Rattle.primitives.proofs.row.colour_row.Goals.{then-y-y0-via-then-y-y0, then-y-y0-via-else-y-y0+then-y1-y}
 

@@ -1,4 +1,4 @@
-use Rattle.std.proofs.Common.{ℕ, ℤ, ◌≡◌, ◌-ℤ◌, ap₂, ◌∙◌, arith, to_z, of_z, w32, w64, rules, length}
+use Rattle.std.proofs.Common.{arith, w32, w64, rules}
 use mir.Val.{SFits}
 use Rattle.std.proofs.lemmas.Int.{ints, to_z-of_z}
 use Rattle.primitives.proofs.Rows.{IsIndexOf, index_order}

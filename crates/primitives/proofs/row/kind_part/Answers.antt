@@ -1,4 +1,4 @@
-use Rattle.std.proofs.Common.{ℕ, ℤ, ◌≡◌, ◌+◌, ◌-◌, pos, ◌+ℤ◌, ap, ap₂, sym, ◌∙◌, arith, to_z, of_z, w32, length, take, drop, rules}
+use Rattle.std.proofs.Common.{ℕ, ℤ, ◌≡◌, ◌+◌, ◌-◌, pos, ◌+ℤ◌, ap, ap₂, ◌∙◌, arith, w32, length, take, drop, rules}
 use mir.Val.{SFits}
 use Rattle.std.proofs.lemmas.Int.{ints, to_z-of_z}
 use Rattle.blend_rules.specs.Planes.{channel}

@@ -1,6 +1,5 @@
-use Rattle.std.proofs.Common.{◌<◌, ◌^◌, pos, ◌+ℤ◌, ◌-ℤ◌, get_or, refl, None, rules}
+use Rattle.std.proofs.Common.{◌<◌, ◌^◌, pos, ◌+ℤ◌, ◌-ℤ◌, get_or, None, rules}
 use Rattle.blend_rules.specs.Planes.{channel}
-use Rattle.primitives.specs.Colours.{mask_coverage}
 use Rattle.primitives.proofs.Rows.{channel_byte, row_beside, coverage_none}
 use Rattle.primitives.proofs.text_row.glyph_row.Goals as goal
 

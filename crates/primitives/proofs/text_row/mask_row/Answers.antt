@@ -45,7 +45,7 @@ returns c i lt =
     let h = c.h.ensures.value in
     let r : ℕ = unsigned_abs (to_z w64 (of_z w64 c.distance-row.result)) in
     let laid : IsLaid c.channel.result colour.a (c.args.at.x -ℤ c.args.x0) c.row.result.now out new (length out) =
-        subst (λ (z : ℤ). IsLaid c.channel.result colour.a z c.row.result.now out new (length out)) start (record { inside = c.over_part.ensures.inside; beside = c.over_part.ensures.beside }) in
+    subst (λ (z : ℤ). IsLaid c.channel.result colour.a z c.row.result.now out new (length out)) start (record { inside = c.over_part.ensures.inside; beside = c.over_part.ensures.beside }) in
     let byte : c.channel.result < 2 ^ 8 = search rules in
     let bytes : (k : ℕ) → get_or out k 0 < 2 ^ 8 = λ k. search rules in
     let long = c.over_part.auto.out in

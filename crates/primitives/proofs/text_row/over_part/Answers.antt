@@ -1,5 +1,4 @@
-use Rattle.std.proofs.Common.{ℕ, ℤ, ◌≡◌, pos, ◌+ℤ◌, ◌-ℤ◌, neg_ℤ, ◌∙◌, arith, to_z, of_z, w64, length, rules}
-use mir.Val.{SFits}
+use Rattle.std.proofs.Common.{arith, length}
 use Rattle.std.proofs.lemmas.Int.{ints, to_z-of_z}
 use Rattle.primitives.proofs.Rows.{IsIndexOf, IsLaid, laid_from}
 use Rattle.primitives.proofs.text_row.over_part.Goals as goal

@@ -1,4 +1,4 @@
-use Rattle.std.proofs.Common.{◌≡◌, ◌+◌, ◌%◌, ◌<◌, ◌≤◌, ℕ, length, get_or, ap, ◌∙◌, arith}
+use Rattle.std.proofs.Common.{◌%◌, ◌<◌, ◌≤◌, ℕ, length, get_or, ap, ◌∙◌, arith}
 use Rattle.std.proofs.lemmas.Nat.{mod_below}
 use Rattle.std.proofs.Math.Nat.{add-mod-mod, mod-le}
 use Rattle.span_kernels.proofs.repeat.copy_repeated.Goals as goal
