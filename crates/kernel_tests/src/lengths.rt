@@ -7,7 +7,8 @@ use crate::rows::{
 };
 use blend_rules::Mode;
 use span_kernels::{
-    blend_row, copy, copy_repeated, fill, over_masked, over_row, over_solid, scale_by, scale_row, weave_row,
+    blend_row, copy, copy_repeated, fill, over_masked, over_row, over_solid, scale_by, scale_row,
+    weave_row,
 };
 use std::alloc::{AllocError, Global};
 use std::test::Fail;
@@ -85,7 +86,14 @@ fn covers_with_one(d: &mut [u8], old: &mut [u8], s: &mut [u8], sa: &mut [u8], da
 }
 
 /// Lays single corner bytes under masks of corner bytes over rows of corner bytes. The rows turn with the length.
-fn covers_under_masks(d: &mut [u8], old: &mut [u8], s: &mut [u8], sa: &mut [u8], mask: &mut [u8], da: &mut [u8]) -> bool
+fn covers_under_masks(
+    d: &mut [u8],
+    old: &mut [u8],
+    s: &mut [u8],
+    sa: &mut [u8],
+    mask: &mut [u8],
+    da: &mut [u8],
+) -> bool
     requires old { length old.old ≡ length d.old }
     requires source { length s.old ≡ length d.old }
     requires alphas { length sa.old ≡ length d.old }
