@@ -96,18 +96,6 @@ from-whole is i p are within e =
       after = λ j low high. omega (arith, end-set is i p j e, are.rising i j (omega arith) (omega (arith, size)));
     }
 
--- what two parts side by side were given
-pub given-both :
-    (old mid new : List Interval) (x y z depth : ℕ) → x ≤ y → y ≤ z → IsGiven old mid x y depth → IsGiven mid new y z depth → IsGiven old new x z depth
-given-both old mid new x y z depth l m a b = record {
-  part = λ k low high. ⊎_elim
-      (λ left. b.before k left ∙ a.part k low left)
-      (λ right. b.part k right high ∙ ap (or_depth depth) (a.after k right))
-      (cases_lt k y);
-  before = λ k low. b.before k (omega arith) ∙ a.before k low;
-  after = λ k high. b.after k high ∙ a.after k (omega arith);
-}
-
 -- a covered place stays
 kept : (depth : ℕ) (o : Option ℕ) → is_some o ≡ true → o ≡ or_depth depth o
 kept depth None h = cc

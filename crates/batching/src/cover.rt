@@ -7,11 +7,11 @@ use std::alloc::Global;
 use std::marker::Model;
 use wr_geom::NoMemory;
 
-/// The places of one row, each open or covered by a depth. No call but `new` takes memory.
+/// The pixels of one row, each open or covered by a depth. No call but `new` takes memory, so none can be refused.
 #[derive(Drop)]
 pub struct Cover {
     width: u16,
-    // Nothing is open before this place, so that a search need not begin there.
+    // Nothing is open before this place. A search for open places begins here at the earliest.
     open_from: u16,
     intervals: Vec<Interval>,
 }
@@ -44,14 +44,14 @@ impl Cover {
         })
     }
 
-    /// How many pixels the row has.
+    /// How many pixels the row has. It takes no memory.
     pub fn width(&self) -> u16
         ensures { result ≡ length self.now }
     {
         self.width
     }
 
-    /// Opens every place.
+    /// Opens every place. It takes no memory.
     pub fn reset(&mut self)
         ensures width { length self.new ≡ length self.old }
         ensures places { self.new ≡ replicate (length self.old) None }
@@ -60,7 +60,7 @@ impl Cover {
         open_all(&mut self.intervals, self.width);
     }
 
-    /// Gives a depth to each place from `x0` to before `x1` that is open. Every other place stays.
+    /// Gives a depth to each place from `x0` to before `x1` that is open. Every other place stays. It takes no memory.
     pub fn cover(&mut self, x0: u16, x1: u16, depth: u32)
         requires order { x0 ≤ x1 }
         requires inside { x1 ≤ length self.old }
@@ -81,7 +81,7 @@ impl Cover {
     }
 
     /// The leftmost part from `x0` to before `x1` that is open, as long as it can be: its first place, and its last
-    /// place plus one. `None` where every place is covered.
+    /// place plus one. `None` where every place is covered. It takes no memory.
     pub fn next_open(&self, x0: u16, x1: u16) -> Option<(u16, u16)>
         requires order { x0 ≤ x1 }
         requires inside { x1 ≤ length self.now }
@@ -95,7 +95,8 @@ impl Cover {
     }
 
     /// The leftmost part from `x0` to before `x1` that no greater depth covers, as long as it can be: its first place,
-    /// and its last place plus one. Open places belong to it. `None` where a greater depth covers every place.
+    /// and its last place plus one. Open places belong to it. `None` where a greater depth covers every place. It takes
+    /// no memory.
     pub fn next_above(&self, x0: u16, x1: u16, depth: u32) -> Option<(u16, u16)>
         requires order { x0 ≤ x1 }
         requires inside { x1 ≤ length self.now }

@@ -1,11 +1,11 @@
-//! The intervals of a row, side by side, and the places where their depths change from what is sought.
+//! The intervals of a row, and searches in them for places whose depth is within a limit, or isn't.
 
-ghost use Rattle.std.specs.Prelude.{◌≡◌, ◌≤◌, ◌<◌, ◌+◌, ℕ, length, Option, Some, None};
+ghost use Rattle.std.specs.Prelude.{◌≡◌, ◌≤◌};
 ghost use Rattle.std.specs.Vec.{vec_capacity};
-ghost use Rattle.batching.specs.Depths.{or_depth, FindsLeftmost};
-ghost use Rattle.batching.specs.Intervals.{interval_at, end_at, last_end, depth_in, depths_of, passes, open_row, AreIntervals, IsFrom, IsSought};
+ghost use Rattle.batching.specs.Depths.{FindsLeftmost};
+ghost use Rattle.batching.specs.Intervals.{last_end, depths_of, passes, open_row, AreIntervals, IsFrom, IsSought};
 
-/// Places side by side that have one depth or are all open. It begins where the one before it ends.
+/// Neighbouring places with one depth, or all open. An interval begins where the one before it ends.
 #[derive(Clone, Copy)]
 pub struct Interval {
     /// Its last place plus one.
@@ -37,7 +37,7 @@ pub fn open_all(intervals: &mut Vec<Interval>, width: u16)
     }
 }
 
-/// The place `x` with its interval, which a search finds.
+/// The place `x` and its interval, found by a binary search.
 pub fn spot_at(intervals: &[Interval], x: u16) -> Spot
     requires { AreIntervals intervals.now }
     ensures from { IsFrom intervals.now result.interval result.x }

@@ -1,8 +1,8 @@
-//! The places of one row that opaque pictures cover already, each with the depth of what covers it.
+//! One row of pixels, each open or covered by a depth.
 //!
-//! A caller that draws opaque things front to back asks for the parts that nothing covers yet, draws these
-//! alone and covers them. One that draws back to front asks for the parts that nothing deeper covers.
-//! Places, widths and ends are in pixels from the row's left end.
+//! A caller that draws opaque primitives front to back asks for the parts that are still open, draws these alone and
+//! covers them. One that draws other primitives back to front asks for the parts that no greater depth covers.
+//! Places and widths are in pixels from the row's left end.
 #![tactic(auto)]
 
 mod cover;
