@@ -44,8 +44,8 @@ run_shallow room r are =
     shifted_is_shallow room (entries_without n r.members) (back_from (origin_of r.home r.members)) ∙ without_shallow room n r.members are
 
 length-both : {A : Type 0} (xs ys : List A) → length (xs ++ ys) ≡ length xs + length ys
-length-both [] ys = refl
-length-both (x ∷ xs) ys = ap suc (length-both xs ys)
+length-both [] ys = omega arith
+length-both (x ∷ xs) ys = omega (arith, length-both xs ys)
 
 first_count : (n : ℕ) (es : List Entry) → length (first_without n es) ≡ length es
 first_count n [] = refl
