@@ -1,5 +1,5 @@
 -- The tiles with the planes put back that are taken out while a window is open.
-use Rattle.std.proofs.Common.{◌≡◌, ℕ, ◌<◌, ◌≤◌, arith, Bool, true, false, List, ◌∷◌, length, Option, Some, None, option_map, is_some, refl, ap, sym, ◌∙◌, true≢false}
+use Rattle.std.proofs.Common.{◌≡◌, ◌<◌, arith, Bool, true, false, ◌∷◌, length, Option, Some, None, option_map, is_some, refl, ap, sym, ◌∙◌, true≢false}
 use Rattle.std.specs.Option.{option_map_or}
 use Rattle.std.specs.Map.{set_value, keys_of}
 use Rattle.std.specs.List.{IsDistinct}
@@ -11,9 +11,9 @@ use Rattle.tile_store.specs.declared.window.Window.{Window}
 use Rattle.tile_store.specs.declared.limits.TheConstants.{MAX_TILES}
 use Rattle.tile_store.specs.StoreModel.{StoreModel, IsStore, LiesInItsTile}
 use Rattle.tile_store.specs.Keys.{same_key}
-use Rattle.tile_store.specs.Tiles.{TileList, IsTile, tile_at, without, touched, changed_at}
+use Rattle.tile_store.specs.Tiles.{TileList, IsTile, tile_at, touched, changed_at}
 use Rattle.tile_store.specs.Within.{window_of, with_planes, put_back, IsOpenIn}
-use Rattle.tile_store.proofs.Keys.{key_same, key_is, key_from, key_turned}
+use Rattle.tile_store.proofs.Keys.{key_same}
 use Rattle.tile_store.proofs.Listed.{set_is_changed, changed_ext, changed_id, changed_twice, at_changed, at_changed_other, changes_commute, touched_changed, at_touched, length_changed, keys_changed}
 
 -- whether the window is open on the tile at a key

@@ -1,9 +1,8 @@
 -- New planes of zeros.
-use Rattle.std.proofs.Common.{◌≡◌, ℕ, ◌*◌, ◌≤◌, ◌<◌, ◌^◌, length, replicate, Result, Ok, Err, refl, arith}
+use Rattle.std.proofs.Common.{◌≡◌, ℕ, ◌*◌, length, replicate, Result, Ok, Err, refl, arith}
 use Rattle.std.specs.Prelude.{IfOk}
 use Rattle.std.proofs.lemmas.List.{length-replicate}
 use Rattle.wr_geom.specs.Bounds.{Bounds, IsRect, width_of, height_of}
-use Rattle.tile_store.specs.declared.limits.TheConstants.{MAX_TILE_SIDE}
 use Rattle.tile_store.specs.Tiles.{HasTileSides, IsTile, blank_tile}
 use Rattle.blend_rules.specs.declared.plane.Plane.{Plane}
 use Rattle.blend_rules.specs.declared.plane.Plane.TheVariants.{B, G, R, A}

@@ -1,11 +1,10 @@
 -- Equal keys are one key.
-use Rattle.std.proofs.Common.{◌≡◌, ℕ, Bool, true, false, ◌&&◌, eqb, int_eq, nat_eq, Option, Some, None, refl, ap, sym, ◌∙◌, true≢false}
+use Rattle.std.proofs.Common.{◌≡◌, ℕ, Bool, true, false, ◌&&◌, eqb, int_eq, Option, Some, None, refl, ap, sym, ◌∙◌, true≢false}
 use Rattle.std.specs.Option.{option_eq}
 use Rattle.std.specs.Cmp.{IsEquivalence}
 use Rattle.std.proofs.lemmas.Bool.{and_parts, and_from, eqb-true}
 use Rattle.std.proofs.lemmas.Bool.Decides.{Decides-int_eq, Decides-eqb}
 use Rattle.wr_geom.specs.declared.keys.TileKey.{TileKey}
-use Rattle.wr_geom.specs.declared.keys.SliceKey.{SliceKey}
 use Rattle.tile_store.specs.Keys.{same_key}
 
 abbrev pair_test : ℕ × ℕ → ℕ × ℕ → Bool

@@ -1,7 +1,7 @@
 -- Lists of kept tiles: what is found in them, and what a change leaves.
-use Rattle.std.proofs.Common.{◌≡◌, ℕ, zero, suc, ◌+◌, ◌-◌, ◌≤◌, ◌<◌, Bool, true, false, List, [], ◌∷◌, length, length-take, min, take, Option, Some, None, option_map, refl, ap, sym, ◌∙◌, true≢false, arith}
+use Rattle.std.proofs.Common.{◌≡◌, ℕ, zero, suc, ◌≤◌, Bool, true, false, [], ◌∷◌, length, length-take, take, Option, Some, None, option_map, refl, ap, sym, ◌∙◌, true≢false, arith}
 use Rattle.std.specs.Option.{option_map_or, IfSome}
-use Rattle.std.specs.Map.{lookup, lookup_entry, remove_entry, set_value, keys_of}
+use Rattle.std.specs.Map.{lookup_entry, set_value, keys_of}
 use Rattle.lru.specs.LruCache.{promoted}
 use Rattle.wr_geom.specs.declared.keys.TileKey.{TileKey}
 use Rattle.tile_store.specs.declared.tile.Tile.{Tile}

@@ -1,24 +1,23 @@
 -- Pixels change only through a window.
-use Rattle.std.proofs.Common.{◌≡◌, ◌≢◌, ℕ, zero, suc, ◌+◌, ◌-◌, ◌*◌, ◌≤◌, ◌<◌, ◌⊎◌, inl, inr, Bool, true, false, cond, ltb, if◌then◌else◌, List, [], ◌∷◌, length, take, slice_index_or, Option, Some, None, option_map, ℤ, pos, ◌+ℤ◌, ◌-ℤ◌, ◌<ℤ◌, ◌≤ℤ◌, unsigned_abs, IsTrue, refl, ap, sym, ◌∙◌, true≢false, arith}
+use Rattle.std.proofs.Common.{◌≡◌, ◌≢◌, ℕ, zero, suc, ◌+◌, ◌-◌, ◌≤◌, ◌<◌, ◌⊎◌, inl, inr, Bool, true, false, cond, ltb, if◌then◌else◌, List, [], ◌∷◌, length, take, Option, Some, None, option_map, ℤ, pos, ◌+ℤ◌, ◌<ℤ◌, ◌≤ℤ◌, refl, ap, sym, ◌∙◌, arith}
 use Rattle.std.proofs.lemmas.Int.{ints}
 use Rattle.std.proofs.lemmas.Map.{lookup-remove_entry}
-use Rattle.std.specs.Map.{keys_of}
 use Rattle.blend_rules.specs.declared.plane.Plane.{Plane}
-use Rattle.span_kernels.specs.PlanesModel.{PlanesModel, with_part, byte_at, plane_of, index_of}
+use Rattle.span_kernels.specs.PlanesModel.{PlanesModel, with_part, byte_at}
 use Rattle.span_kernels.specs.Parts.{IsPartWritten}
 use Rattle.span_kernels.proofs.Parts.{part_is_written}
-use Rattle.wr_geom.specs.Bounds.{Bounds, Covers, holds, width_of, height_of}
+use Rattle.wr_geom.specs.Bounds.{Bounds, Covers, width_of}
 use Rattle.wr_geom.proofs.Points.{IsInside, inside}
 use Rattle.wr_geom.specs.declared.keys.TileKey.{TileKey}
 use Rattle.tile_store.specs.declared.tile.Tile.{Tile}
 use Rattle.tile_store.specs.declared.window.Window.{Window}
 use Rattle.tile_store.specs.Keys.{same_key}
-use Rattle.tile_store.specs.Tiles.{TileList, HasTileSides, HasRow, IsTile, tile_at, tile_byte, without, touched, changed_at, popped_over, blank_tile, column_of, row_of}
+use Rattle.tile_store.specs.Tiles.{TileList, HasRow, IsTile, tile_at, tile_byte, without, touched, changed_at, blank_tile, column_of, row_of}
 use Rattle.tile_store.specs.StoreModel.{StoreModel, IsStore, LiesInItsTile}
 use Rattle.tile_store.specs.Windows.{HasWindowRow, with_part_in, with_window_row}
-use Rattle.tile_store.specs.Laws.{HaveOwnKeys, KeepsPixels, IsRowWritten, IsWindowWritten, TouchKeepsPixels, SwapKeepsPixels, PutKeepsPixels, RemoveKeepsPixels, PopKeepsPixels, WindowRowChangesAlone}
-use Rattle.tile_store.proofs.Keys.{key_same, key_is, key_from, keys_equivalence, key_test}
-use Rattle.tile_store.proofs.Listed.{at_changed, at_changed_other, at_touched, at_without_other, keys_changed, tile_in, store_changed}
+use Rattle.tile_store.specs.Laws.{KeepsPixels, IsRowWritten, IsWindowWritten, TouchKeepsPixels, SwapKeepsPixels, PutKeepsPixels, RemoveKeepsPixels, PopKeepsPixels, WindowRowChangesAlone}
+use Rattle.tile_store.proofs.Keys.{key_same, keys_equivalence, key_test}
+use Rattle.tile_store.proofs.Listed.{at_changed, at_changed_other, at_touched, keys_changed, tile_in, store_changed}
 use Rattle.tile_store.proofs.Backed.{with_note}
 use Rattle.tile_store.proofs.Ready.{IsWithin, within, row_within, down_from, tile_written}
 

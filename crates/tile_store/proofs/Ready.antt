@@ -1,18 +1,17 @@
 -- The open window and its tile.
-use Rattle.std.proofs.Common.{◌≡◌, ℕ, ◌+◌, ◌-◌, ◌*◌, ◌≤◌, ◌<◌, List, ◌++◌, length, take, drop, Option, Some, None, option_map, ℤ, pos, ◌≤ℤ◌, ◌<ℤ◌, ◌-ℤ◌, ◌+ℤ◌, unsigned_abs, refl, ap, sym, ◌∙◌, arith}
+use Rattle.std.proofs.Common.{◌≡◌, ℕ, ◌*◌, List, ◌++◌, length, take, drop, Some, option_map, ℤ, pos, ◌≤ℤ◌, ◌<ℤ◌, ◌-ℤ◌, refl, ap, sym, ◌∙◌, arith}
 use Rattle.std.proofs.lemmas.Int.{ints}
 use Rattle.blend_rules.specs.declared.plane.Plane.{Plane}
 use Rattle.span_kernels.specs.PlanesModel.{PlanesModel, with_part, part_of, overwritten, plane_of, index_of, IsWhole}
 use Rattle.span_kernels.proofs.Parts.{width_with, height_with, lengths_with}
 use Rattle.std.proofs.lemmas.List.{length-append, length-drop, length-take-le}
-use Rattle.wr_geom.specs.Bounds.{Bounds, Covers, holds, width_of, height_of}
-use Rattle.wr_geom.proofs.Points.{IsInside, inside, holds_it}
-use Rattle.wr_geom.specs.declared.keys.TileKey.{TileKey}
+use Rattle.wr_geom.specs.Bounds.{Bounds, Covers, width_of, height_of}
+use Rattle.wr_geom.proofs.Points.{inside, holds_it}
 use Rattle.tile_store.specs.declared.tile.Tile.{Tile}
 use Rattle.tile_store.specs.declared.window.OpenWindow.{OpenWindow}
 use Rattle.tile_store.specs.Tiles.{TileList, HasTileSides, HasRow, IsTile, tile_at, changed_at, column_of, row_of}
 use Rattle.tile_store.specs.StoreModel.{StoreModel, IsStore}
-use Rattle.tile_store.specs.Windows.{HasWindowRow, with_part_in, with_window_row, part_in, window_row}
+use Rattle.tile_store.specs.Windows.{with_part_in, with_window_row, window_row}
 use Rattle.tile_store.specs.Within.{with_planes, put_back, IsOpenIn}
 use Rattle.tile_store.proofs.Listed.{at_changed, changed_ext, changed_twice, tile_in, store_changed}
 

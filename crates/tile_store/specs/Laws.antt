@@ -1,5 +1,5 @@
 -- What holds of stores of tiles, as laws on the definitions.
-use Rattle.std.specs.Prelude.{◌≡◌, ◌≢◌, ℕ, ◌<◌, ◌⊎◌, List, [], ◌∷◌, length, slice_index_or, Option, Some, None, ℤ, pos, ◌+ℤ◌, ◌<ℤ◌, ◌≤ℤ◌, IsTrue}
+use Rattle.std.specs.Prelude.{◌≡◌, ◌≢◌, ℕ, ◌<◌, ◌⊎◌, List, ◌∷◌, length, slice_index_or, Some, None, ℤ, pos, ◌+ℤ◌, ◌<ℤ◌, ◌≤ℤ◌, IsTrue}
 use Rattle.std.specs.List.{IsDistinct}
 use Rattle.std.specs.Map.{keys_of}
 use Rattle.blend_rules.specs.declared.plane.Plane.{Plane}
@@ -9,7 +9,7 @@ use Rattle.wr_geom.specs.declared.keys.TileKey.{TileKey}
 use Rattle.tile_store.specs.declared.tile.Tile.{Tile}
 use Rattle.tile_store.specs.declared.window.Window.{Window}
 use Rattle.tile_store.specs.Keys.{same_key}
-use Rattle.tile_store.specs.Tiles.{TileList, IsTile, tile_at, tile_byte, without, touched, changed_at, popped_over, blank_tile}
+use Rattle.tile_store.specs.Tiles.{TileList, tile_at, tile_byte, without, touched, changed_at, popped_over, blank_tile}
 use Rattle.tile_store.specs.StoreModel.{StoreModel, IsStore}
 use Rattle.tile_store.specs.Windows.{HasWindowRow, with_window_row}
 

@@ -1,11 +1,10 @@
 -- What contracts see of a store of tiles.
-use Rattle.std.specs.Prelude.{◌≡◌, ℕ, ◌≤◌, ◌+◌, ◌-◌, ◌^◌, min, List, length, Option, Some, None, ℤ, ◌<ℤ◌}
-use Rattle.wr_geom.specs.Bounds.{Bounds, Covers, area_of}
-use Rattle.wr_geom.specs.declared.keys.TileKey.{TileKey}
+use Rattle.std.specs.Prelude.{ℕ, ◌≤◌, ◌+◌, ◌-◌, ◌^◌, min, length, Option, Some, None}
+use Rattle.wr_geom.specs.Bounds.{Bounds, Covers}
 use Rattle.tile_store.specs.declared.limits.TheConstants.{MAX_TILES}
 use Rattle.tile_store.specs.declared.tile.Tile.{Tile}
 use Rattle.tile_store.specs.declared.window.Window.{Window}
-use Rattle.tile_store.specs.Tiles.{TileList, HasRow, IsTile, AreTiles, tile_at}
+use Rattle.tile_store.specs.Tiles.{TileList, AreTiles, tile_at}
 
 -- the kept tiles, the most recent first; the open window, if there is one; and how many pixels windows had in all
 pub record StoreModel (R : Type 0) : Type 0 where

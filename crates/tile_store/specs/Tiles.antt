@@ -1,10 +1,10 @@
 -- Kept tiles, and the list that keeps them.
-use Rattle.std.specs.Prelude.{◌≡◌, ℕ, ◌≤◌, ◌-◌, Bool, cond, ltb, List, [], ◌∷◌, length, take, Option, Some, None, option_map, ℤ, ◌-ℤ◌, ◌≤ℤ◌, ◌<ℤ◌, unsigned_abs, if◌then◌else◌}
+use Rattle.std.specs.Prelude.{◌≡◌, ℕ, ◌≤◌, ◌-◌, cond, ltb, List, [], ◌∷◌, length, take, Option, Some, None, option_map, ℤ, ◌-ℤ◌, ◌≤ℤ◌, ◌<ℤ◌, unsigned_abs, if◌then◌else◌}
 use Rattle.std.specs.Option.{option_map_or}
 use Rattle.std.specs.Map.{lookup, remove_entry}
 use Rattle.lru.specs.LruCache.{last_entry}
 use Rattle.blend_rules.specs.declared.plane.Plane.{Plane}
-use Rattle.span_kernels.specs.PlanesModel.{PlanesModel, part_of, byte_at, blank_planes, IsWhole}
+use Rattle.span_kernels.specs.PlanesModel.{part_of, byte_at, blank_planes, IsWhole}
 use Rattle.wr_geom.specs.Bounds.{Bounds, IsRect, width_of, height_of}
 use Rattle.wr_geom.specs.declared.keys.TileKey.{TileKey}
 use Rattle.tile_store.specs.declared.limits.TheConstants.{MAX_TILE_SIDE}

@@ -4,7 +4,6 @@ use Rattle.std.specs.Option.{option_map_or}
 use Rattle.blend_rules.specs.declared.plane.Plane.{Plane}
 use Rattle.span_kernels.specs.PlanesModel.{part_of, with_part}
 use Rattle.wr_geom.specs.Bounds.{Bounds, width_of}
-use Rattle.wr_geom.specs.declared.keys.TileKey.{TileKey}
 use Rattle.tile_store.specs.declared.tile.Tile.{Tile}
 use Rattle.tile_store.specs.declared.window.Window.{Window}
 use Rattle.tile_store.specs.Tiles.{HasRow, tile_at, changed_at, column_of, row_of}

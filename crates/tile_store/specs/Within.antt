@@ -1,8 +1,6 @@
 -- How a store keeps its tiles: while a window is open, the planes of its tile stand beside the cache.
-use Rattle.std.specs.Prelude.{◌≡◌, ℕ, ◌^◌, ◌-◌, List, Option, Some, None, option_map}
-use Rattle.std.specs.Map.{lookup}
+use Rattle.std.specs.Prelude.{◌≡◌, Option, Some, None, option_map}
 use Rattle.span_kernels.specs.PlanesModel.{PlanesModel}
-use Rattle.wr_geom.specs.declared.keys.TileKey.{TileKey}
 use Rattle.tile_store.specs.declared.tile.Tile.{Tile}
 use Rattle.tile_store.specs.declared.window.Window.{Window}
 use Rattle.tile_store.specs.declared.window.OpenWindow.{OpenWindow}

@@ -1,4 +1,3 @@
-use Rattle.std.proofs.Common.{rules, ◌≡◌, refl, sym, ◌∙◌}
 use Rattle.tile_store.proofs.Backed.{own_keys_backed}
 use Rattle.tile_store.proofs.Listed.{each_found}
 use Rattle.tile_store.proofs.store.know_store.Goals as goal

@@ -1,4 +1,4 @@
-use Rattle.std.proofs.Common.{rules, arith}
+use Rattle.std.proofs.Common.{arith}
 use Rattle.std.proofs.lemmas.Int.{ints}
 use Rattle.tile_store.proofs.Ready.{within}
 use Rattle.tile_store.proofs.tile.columns_in.Goals as goal

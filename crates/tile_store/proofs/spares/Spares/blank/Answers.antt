@@ -1,4 +1,4 @@
-use Rattle.std.proofs.Common.{rules, ◌≡◌, Some, refl, sym, ◌∙◌}
+use Rattle.std.proofs.Common.{rules, ◌≡◌, Some}
 use Rattle.std.proofs.lemmas.List.Elements.{All-pop}
 use Rattle.tile_store.specs.Spares.{HasSides}
 use Rattle.tile_store.proofs.Blank.{ok_blank}

@@ -1,4 +1,4 @@
-use Rattle.std.proofs.Common.{rules, ◌≡◌, Some, refl, sym, ◌∙◌}
+use Rattle.std.proofs.Common.{rules, ◌≡◌, Some, refl}
 use Rattle.tile_store.specs.Tiles.{tile_at}
 use Rattle.tile_store.specs.Within.{with_planes}
 use Rattle.tile_store.proofs.Listed.{set_is_changed}

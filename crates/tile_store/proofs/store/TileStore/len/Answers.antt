@@ -1,4 +1,4 @@
-use Rattle.std.proofs.Common.{rules, ◌≡◌, ◌≤◌, length, Fits, w32, sym, ◌∙◌, arith}
+use Rattle.std.proofs.Common.{◌≤◌, sym, ◌∙◌, arith}
 use Rattle.tile_store.specs.declared.limits.TheConstants.{MAX_TILES}
 use Rattle.tile_store.proofs.Backed.{length_backed}
 use Rattle.tile_store.proofs.store.TileStore.len.Goals as goal

@@ -1,4 +1,4 @@
-use Rattle.std.proofs.Common.{rules, ◌≡◌, Some, None, refl, sym, ◌∙◌}
+use Rattle.std.proofs.Common.{rules, ◌≡◌, Some, None, refl}
 use Rattle.tile_store.specs.Tiles.{tile_at}
 use Rattle.tile_store.proofs.Backed.{closed_from, opened_backed, opened_in}
 use Rattle.tile_store.proofs.store.TileStore.open_window.Goals as goal

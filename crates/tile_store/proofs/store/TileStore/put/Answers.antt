@@ -1,8 +1,6 @@
-use Rattle.std.proofs.Common.{rules, ◌≡◌, ◌<◌, ◌≤◌, ◌-◌, ◌∷◌, length, Some, None, refl, sym, ◌∙◌, arith}
-use Rattle.tile_store.specs.declared.limits.TheConstants.{MAX_TILES}
-use Rattle.tile_store.specs.declared.tile.Tile.{Tile}
+use Rattle.std.proofs.Common.{◌≡◌, ◌≤◌, ◌-◌, length, Some, None, refl, sym, ◌∙◌, arith}
 use Rattle.tile_store.specs.Keys.{same_key}
-use Rattle.tile_store.specs.Tiles.{tile_at, blank_tile}
+use Rattle.tile_store.specs.Tiles.{blank_tile}
 use Rattle.tile_store.proofs.Puts.{put_new}
 use Rattle.tile_store.proofs.Blank.{blank_is_tile}
 use Rattle.tile_store.proofs.Backed.{none_backed, length_backed, put_backed, open_put, store_put}

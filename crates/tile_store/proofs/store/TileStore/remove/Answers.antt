@@ -1,4 +1,4 @@
-use Rattle.std.proofs.Common.{rules, ◌≡◌, None, refl, sym, ◌∙◌}
+use Rattle.std.proofs.Common.{◌≡◌, None}
 use Rattle.tile_store.proofs.Listed.{store_without}
 use Rattle.tile_store.proofs.Backed.{closed_from}
 use Rattle.tile_store.proofs.store.TileStore.remove.Goals as goal

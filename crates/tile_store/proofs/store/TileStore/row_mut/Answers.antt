@@ -1,8 +1,7 @@
-use Rattle.std.proofs.Common.{rules, ◌≡◌, ◌-◌, Some, refl, sym, ◌∙◌, to_z-of_z, arith, w32}
+use Rattle.std.proofs.Common.{rules, ◌≡◌, ◌-◌, Some, refl, to_z-of_z, arith}
 use Rattle.wr_geom.specs.Bounds.{width_of}
 use Rattle.tile_store.specs.Tiles.{HasRow, row_of}
 use Rattle.tile_store.specs.Windows.{HasWindowRow}
-use Rattle.tile_store.specs.Within.{IsOpenIn}
 use Rattle.tile_store.proofs.Ready.{ready, row_backed, written_backed, store_written, within, row_within, down_from}
 use Rattle.tile_store.proofs.store.TileStore.row_mut.Goals as goal
 

@@ -1,4 +1,4 @@
-use Rattle.std.proofs.Common.{rules, ◌≡◌, Some, IsSome, is_some, refl, sym, ◌∙◌}
+use Rattle.std.proofs.Common.{rules, ◌≡◌, Some, is_some, refl, sym}
 use Rattle.tile_store.specs.Tiles.{tile_at}
 use Rattle.tile_store.proofs.Listed.{store_changed}
 use Rattle.tile_store.proofs.Backed.{is_some_backed, note_backed, noted_backed, open_noted, with_note}

@@ -1,5 +1,5 @@
-use Rattle.std.proofs.Common.{rules, ◌≡◌, Some, None, true, false, refl, sym, ◌∙◌}
-use Rattle.tile_store.specs.Tiles.{IsTile, tile_at}
+use Rattle.std.proofs.Common.{rules, ◌≡◌, Some, None, true, false, refl}
+use Rattle.tile_store.specs.Tiles.{tile_at}
 use Rattle.tile_store.proofs.Backed.{seen_none, seen_open, seen_else, is_open}
 use Rattle.tile_store.proofs.Listed.{tile_in}
 use Rattle.tile_store.proofs.store.TileStore.tile.Goals as goal

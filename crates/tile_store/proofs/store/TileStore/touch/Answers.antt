@@ -1,4 +1,4 @@
-use Rattle.std.proofs.Common.{rules, ◌≡◌, refl, sym, ◌∙◌}
+use Rattle.std.proofs.Common.{refl}
 use Rattle.tile_store.proofs.Listed.{promoted_is_touched, store_touched, touched_first}
 use Rattle.tile_store.proofs.Backed.{touched_backed, open_touched, is_some_backed}
 use Rattle.tile_store.proofs.store.TileStore.touch.Goals as goal
