@@ -1,0 +1,5 @@
+pub mod Planes
+pub mod Rows
+pub mod Parts
+pub mod Drawing
+pub mod Shown
