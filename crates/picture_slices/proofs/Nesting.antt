@@ -44,8 +44,8 @@ run_shallow room r are =
     shifted_is_shallow room (entries_without n r.members) (back_from (origin_of r.home r.members)) ∙ without_shallow room n r.members are
 
 length-both : {A : Type 0} (xs ys : List A) → length (xs ++ ys) ≡ length xs + length ys
-length-both [] ys = refl
-length-both (x ∷ xs) ys = ap suc (length-both xs ys)
+length-both [] ys = omega arith
+length-both (x ∷ xs) ys = omega (arith, length-both xs ys)
 
 first_count : (n : ℕ) (es : List Entry) → length (first_without n es) ≡ length es
 first_count n [] = refl
@@ -99,7 +99,7 @@ keyed_shallow room view (k ∷ ks) (r ∷ rs) are h =
     let own = is_shallow room (top_entries r.members) in
     let later = is_shallow room (top_entries (joined rs)) in
     let both : (own && later) ≡ true =
-      sym (ap (is_shallow room) (entries_both r.members (joined rs)) ∙ rows_leave_room room (top_entries r.members) (top_entries (joined rs)) (tops_row r.members its)) ∙ h in
+    sym (ap (is_shallow room) (entries_both r.members (joined rs)) ∙ rows_leave_room room (top_entries r.members) (top_entries (joined rs)) (tops_row r.members its)) ∙ h in
     All-cons (IsShallowSlice room) (slice_of view k r) (keyed_slices view ks rs) (run_shallow room r its ∙ and_first own later both)
     (keyed_shallow room view ks rs rest (and_second own later both))
 
@@ -116,7 +116,7 @@ keyed_few n view [] rs h = All-nil (HasAtMost n)
 keyed_few n view (k ∷ ks) [] h = All-nil (HasAtMost n)
 keyed_few n view (k ∷ ks) (r ∷ rs) h =
     let sum : length (top_entries (joined (r ∷ rs))) ≡ length (top_entries r.members) + length (top_entries (joined rs)) =
-      ap (λ (es : List Entry). length es) (entries_both r.members (joined rs)) ∙ length-both (top_entries r.members) (top_entries (joined rs)) in
+    ap (λ (es : List Entry). length es) (entries_both r.members (joined rs)) ∙ length-both (top_entries r.members) (top_entries (joined rs)) in
     All-cons (HasAtMost n) (slice_of view k r) (keyed_slices view ks rs) (omega (arith, h, sum, run_count r)) (keyed_few n view ks rs (omega (arith, h, sum)))
 
 pub slices_have_few_entries : SlicesHaveFewEntries

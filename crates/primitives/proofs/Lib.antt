@@ -1,5 +1,6 @@
 pub mod Colours
 pub mod Moves
 pub mod Nesting
+pub mod Rows
 pub mod Runs
 pub mod Sames

@@ -1,5 +1,5 @@
 -- The entries of a scene that breaks no limit nest as its items do, and are at most two for each item.
-use Rattle.std.proofs.Common.{◌≡◌, ℕ, zero, suc, ◌+◌, ◌*◌, ◌<◌, ◌≤◌, Bool, true, false, ◌&&◌, ◌||◌, nat_lt, if◌then◌else◌, List, [], ◌∷◌, ◌++◌, length, map, Option, Some, None, refl, sym, ap, ap₂, subst, ◌∙◌, arith, append-nil, append_assoc, true≢false}
+use Rattle.std.proofs.Common.{◌≡◌, ℕ, zero, suc, ◌+◌, ◌*◌, ◌<◌, ◌≤◌, Bool, true, false, max, ◌&&◌, ◌||◌, nat_lt, if◌then◌else◌, List, [], ◌∷◌, ◌++◌, length, map, Option, Some, None, refl, sym, ap, ap₂, subst, ◌∙◌, arith, append-nil, append_assoc, true≢false}
 use Rattle.std.specs.Option.{option_map}
 use Rattle.std.proofs.lemmas.Bool.{cases_lt, leb-true, leb-false}
 use Rattle.std.proofs.lemmas.List.{map-append}
@@ -11,8 +11,7 @@ use Rattle.display_list.specs.Levels.{totals_of}
 use Rattle.display_list.specs.Trees.{Tree, solid, image, border, text, context, iframe, hit_area, Trees, none, more, told}
 use Rattle.image_store.specs.StoreModel.{StoreModel}
 use Rattle.list_summary.specs.Shown.{Shown, alone, within, under, chain_clip_count, shown_tree, shown_trees}
-use Rattle.list_summary.specs.Totals.{greatest}
-use Rattle.list_summary.proofs.Sums.{greatest-append, same_greatest, raised_greatest}
+use Rattle.list_summary.specs.Totals.{greatest, total}
 use Rattle.pipelines.specs.Table.{PipelineMap, pipeline_at, pipeline_list, AreFit}
 use Rattle.primitives.specs.PrimitiveModel.{PrimitiveModel}
 use Rattle.primitives.specs.declared.entry.Entry.{Entry}
@@ -59,14 +58,18 @@ and_both true false h k = k
 and_both false b h k = h
 
 length-both : {A : Type 0} (xs ys : List A) → length (xs ++ ys) ≡ length xs + length ys
-length-both [] ys = refl
-length-both (x ∷ xs) ys = ap suc (length-both xs ys)
+length-both [] ys = omega arith
+length-both (x ∷ xs) ys = omega (arith, length-both xs ys)
+
+depth-both : (ss ts : List Shown) → depth (ss ++ ts) ≡ max (depth ss) (depth ts)
+depth-both [] ts = omega arith
+depth-both (s ∷ ss) ts = omega (arith, depth-both ss ts)
 
 suits_both : (es fs : List Entry) (ss ts : List Shown) → Suits es ss → Suits fs ts → Suits (es ++ fs) (ss ++ ts)
 suits_both es fs ss ts h k = record {
   row = row-append es fs h.row k.row;
   shallow = λ room d.
-      let deep = greatest-append (λ s. s.nesting) ss ts in
+      let deep = depth-both ss ts in
       rows_leave_room room es fs h.row
       ∙ and_both (is_shallow room es) (is_shallow room fs) (h.shallow room (omega (arith, d, deep))) (k.shallow room (omega (arith, d, deep)));
   few = omega (arith, h.few, k.few, length-both es fs, length-both ss ts);
@@ -77,7 +80,12 @@ abbrev in_context : Shown → List Shown → List Shown
 in_context s ss = map (within 1) (s ∷ ss)
 
 context_depth : (s : Shown) (ss : List Shown) → depth (in_context s ss) ≡ depth (s ∷ ss) + 1
-context_depth s ss = raised_greatest (λ t. t.nesting) (within 1) 1 (λ t. refl) s ss
+context_depth s [] = omega arith
+context_depth s (t ∷ ts) = omega (arith, context_depth t ts)
+
+depth_inside : (k : ℕ) (ss : List Shown) → depth (map (under k) ss) ≡ depth ss
+depth_inside k [] = refl
+depth_inside k (s ∷ ss) = omega (arith, depth_inside k ss)
 
 map-count : (f : Shown → Shown) (ss : List Shown) → length (map f ss) ≡ length ss
 map-count f [] = refl
@@ -107,7 +115,7 @@ suits_group o m clips es s ss h = record {
 suits_inside : (es : List Entry) (s : Shown) (k : ℕ) (ss : List Shown) → Suits es ss → Suits es (s ∷ map (under k) ss)
 suits_inside es s k ss h = record {
   row = h.row;
-  shallow = λ room d. h.shallow room (omega (arith, d, same_greatest (λ t. t.nesting) (under k) (λ t. refl) ss));
+  shallow = λ room d. h.shallow room (omega (arith, d, depth_inside k ss));
   few = omega (arith, h.few, map-count (under k) ss);
 }
 
@@ -249,4 +257,7 @@ tops_have_few_entries scene is =
     let ps = scene.pipelines in
     let within_limits = (no_fault ps).0 (unbroken (scene_fault ps) (is_full scene.store) is.limits) in
     let shown = expanded 64 ps 0 in
-    omega (arith, (scene_suits scene is).few, at_most 65536 (length shown) (first_false (nat_lt 65536 (length shown)) _ within_limits.size))
+    let items = nat_lt 65536 (length shown) in
+    let glyphs = nat_lt 1048576 (total (λ s. s.glyphs) shown) in
+    let clips = nat_lt 1048576 (total (λ s. s.clips) shown) in
+    omega (arith, (scene_suits scene is).few, at_most 65536 (length shown) (first_false items glyphs (first_false (items || glyphs) clips within_limits.size)))

@@ -80,13 +80,13 @@ module _ (planes : PlanesModel) (bytes : List ℕ) where
   plane_with R = refl
   plane_with A = refl
 
-  width_with : (p : Plane) → (with_plane p bytes planes).width ≡ planes.width
+  pub width_with : (p : Plane) → (with_plane p bytes planes).width ≡ planes.width
   width_with B = refl
   width_with G = refl
   width_with R = refl
   width_with A = refl
 
-  height_with : (p : Plane) → (with_plane p bytes planes).height ≡ planes.height
+  pub height_with : (p : Plane) → (with_plane p bytes planes).height ≡ planes.height
   height_with B = refl
   height_with G = refl
   height_with R = refl
@@ -111,7 +111,7 @@ module _ (planes : PlanesModel) (bytes : List ℕ) where
   plane_else A A other = absurd (other refl)
 
   -- planes of one length each stay so
-  lengths_with : (n : ℕ) (p : Plane) → length bytes ≡ n → ((q : Plane) → length (plane_of q planes) ≡ n) → (q : Plane) → length (plane_of q (with_plane p bytes planes)) ≡ n
+  pub lengths_with : (n : ℕ) (p : Plane) → length bytes ≡ n → ((q : Plane) → length (plane_of q planes) ≡ n) → (q : Plane) → length (plane_of q (with_plane p bytes planes)) ≡ n
   lengths_with n B h each B = h
   lengths_with n B h each G = each G
   lengths_with n B h each R = each R

@@ -1,5 +1,5 @@
 -- Four planes of bytes, as contracts see them.
-use Rattle.std.specs.Prelude.{◌≡◌, ℕ, ◌+◌, ◌*◌, ◌<◌, ◌^◌, List, ◌++◌, take, drop, length, slice_index_or}
+use Rattle.std.specs.Prelude.{◌≡◌, ℕ, ◌+◌, ◌*◌, ◌<◌, ◌^◌, List, ◌++◌, take, drop, length, replicate, slice_index_or}
 use Rattle.blend_rules.specs.declared.colour.Px.{Px}
 use Rattle.blend_rules.specs.declared.plane.Plane.{Plane}
 use Rattle.blend_rules.specs.declared.plane.Plane.TheVariants.{B, G, R, A}
@@ -56,6 +56,17 @@ overwritten old at new =
 -- the planes with bytes written into row y of one of them, from column x on
 abbrev pub with_part : Plane → ℕ → ℕ → List ℕ → PlanesModel → PlanesModel
 with_part plane y x bytes planes = with_plane plane (overwritten (plane_of plane planes) (index_of planes x y) bytes) planes
+
+-- planes of these sides, all of whose bytes are 0
+abbrev pub blank_planes : ℕ → ℕ → PlanesModel
+blank_planes width height = record {
+  width = width;
+  height = height;
+  blue = replicate (height * width) 0;
+  green = replicate (height * width) 0;
+  red = replicate (height * width) 0;
+  alpha = replicate (height * width) 0;
+}
 
 -- each plane has a byte for each pixel, and no side is longer than 65,535
 pub record IsWhole (planes : PlanesModel) : Type 0 where

@@ -2,9 +2,10 @@ ghost use Rattle.std.specs.Prelude.{◌≡◌, ◌<◌, ◌≤◌, ◌+◌, ◌*
 ghost use Rattle.std.specs.Borrow.{sem};
 ghost use Rattle.blend_rules.specs.declared.plane.Plane.{Plane};
 ghost use Rattle.blend_rules.specs.declared.plane.Plane.TheVariants.{B, G, R, A};
-ghost use Rattle.span_kernels.specs.PlanesModel.{plane_of, part_of, pixel_at, with_part, IsWhole};
+ghost use Rattle.span_kernels.specs.PlanesModel.{plane_of, part_of, pixel_at, with_part, blank_planes, IsWhole};
 ghost use Rattle.span_kernels.specs.Parts.{IsPartWritten, PartIsWritten, FittingIsWritten};
 
+use crate::runs::fill;
 use blend_rules::{Plane, Px};
 use std::alloc::{AllocError, Global};
 use std::marker::Model;
@@ -82,6 +83,16 @@ impl Planes {
             red: Vec::new(alloc),
             alpha: Vec::new(alloc),
         }
+    }
+
+    /// Makes every byte 0. It takes no memory.
+    pub fn clear(&mut self)
+        ensures { self.new ≡ blank_planes self.old.width self.old.height }
+    {
+        clear_plane(&mut self.blue);
+        clear_plane(&mut self.green);
+        clear_plane(&mut self.red);
+        clear_plane(&mut self.alpha);
     }
 
     /// How many pixels a row has. It takes no memory.
@@ -183,6 +194,12 @@ pub fn part_laws()
     ensures part { PartIsWritten }
     ensures fitting { FittingIsWritten }
 {}
+
+fn clear_plane(bytes: &mut Vec<u8>)
+    ensures { bytes.new.items ≡ replicate (length bytes.old.items) 0 }
+{
+    fill(bytes.as_mut_slice(), 0);
+}
 
 fn zeros(alloc: Global, size: usize) -> Result<Vec<u8>, AllocError>
     ensures { IfOk result (λ bytes. bytes.items ≡ replicate size 0) }
