@@ -3,3 +3,4 @@ pub mod Rows
 pub mod Parts
 pub mod Drawing
 pub mod Shown
+pub mod Filled

@@ -82,6 +82,7 @@ impl Canvas {
             &mut self.layer,
             slices.as_slice(),
             scene.store(),
-        )
+        )?;
+        Ok(())
     }
 }
