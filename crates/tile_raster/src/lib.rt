@@ -1,0 +1,3 @@
+//! Entries drawn row by row: opaque primitives front to back, the others back to front above them.
+#![tactic(auto)]
+
