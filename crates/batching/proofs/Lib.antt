@@ -1,0 +1,5 @@
+pub mod Places
+pub mod Parts
+pub mod Inserts
+pub mod Given
+pub mod Rows
