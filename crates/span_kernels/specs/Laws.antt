@@ -4,7 +4,8 @@ use Rattle.blend_rules.specs.declared.colour.Px.{Px}
 use Rattle.blend_rules.specs.declared.mode.Mode.{Mode}
 use Rattle.blend_rules.specs.declared.plane.Plane.{Plane}
 use Rattle.blend_rules.specs.declared.plane.Plane.TheVariants.{B, G, R, A}
-use Rattle.blend_rules.specs.Colour.{product, scaled, blended, blended_channel, source_over}
+use Rattle.blend_rules.specs.declared.mode.Mode.TheVariants.{Normal}
+use Rattle.blend_rules.specs.Colour.{IsPixel, product, scaled, blended, blended_channel, source_over}
 use Rattle.blend_rules.specs.Pixels.{pixel_bytes}
 use Rattle.blend_rules.specs.Planes.{channel}
 use Rattle.span_kernels.specs.Bytes.{over_byte, interleaved}
@@ -16,6 +17,11 @@ OverByPlane = (p : Plane) (s d : Px) → channel p (source_over s d) ≡ over_by
 -- a scaled colour, in each plane
 abbrev pub ScaledByPlane : Type 0
 ScaledByPlane = (p : Plane) (s : Px) (c : ℕ) → channel p (scaled s c) ≡ product (channel p s) c
+
+-- a scaled colour over a backdrop in mode Normal, in each plane
+abbrev pub MaskedByPlane : Type 0
+MaskedByPlane = (p : Plane) (s d : Px) (c : ℕ) → c < 2 ^ 8 → IsPixel s → IsPixel d
+    → channel p (blended Normal (scaled s c) d) ≡ over_byte (product s.a c) (product (channel p s) c) (channel p d)
 
 -- a blended colour, in the planes of colour
 abbrev pub BlendedByPlane : Type 0

@@ -18,7 +18,7 @@ mod weave;
 pub use blend::blend_row;
 pub use blend_rules::Plane;
 pub use laws::kernel_laws;
-pub use over::{over_row, over_solid};
+pub use over::{over_masked, over_row, over_solid};
 pub use planes::{Planes, Row, know_planes, part_laws};
 pub use runs::{copy, fill, know_row};
 pub use scale::{scale_by, scale_row};

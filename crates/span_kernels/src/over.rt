@@ -1,9 +1,10 @@
 //! Sources over backdrops.
 
 ghost use Rattle.std.specs.Prelude.{◌≡◌, ◌≤◌, ◌<◌, ℕ, length, slice_index, EachIndex};
+ghost use Rattle.blend_rules.specs.Colour.{product};
 ghost use Rattle.span_kernels.specs.Bytes.{over_byte};
 
-use crate::lanes::{lanes_at, over_lanes};
+use crate::lanes::{lanes_at, over_lanes, product_lanes};
 use crate::step::{Step, step_row};
 use blend_rules::mul;
 use std::simd::prelude::*;
@@ -64,6 +65,34 @@ impl Step for Source<'_> {
     }
 }
 
+/// One byte of a source and its alpha, under a row of a mask.
+#[derive(Drop)]
+struct Masked<'a> {
+    s: u8,
+    sa: u8,
+    mask: &'a [u8],
+}
+
+impl Step for Masked<'_> {
+    ghost gives = { λ self at d. over_byte (product self.sa (slice_index self.mask.now at))
+        (product self.s (slice_index self.mask.now at)) d };
+
+    ghost fits = { λ self at _. (at < length self.mask.now) × (self.s ≤ self.sa) };
+
+    #[inline(always)]
+    fn byte(&self, at: usize, d: u8) -> u8 {
+        let share = self.mask[at];
+        over(mul(self.sa, share), mul(self.s, share), d)
+    }
+
+    #[inline(always)]
+    fn lanes(&self, at: usize, d: u8x16) -> u8x16 {
+        let share = lanes_at(self.mask, at);
+        let alphas = product_lanes(u8x16::splat(self.sa), share);
+        over_lanes(alphas, product_lanes(u8x16::splat(self.s), share), d)
+    }
+}
+
 /// A byte of a source under the alpha `sa` over each byte of a row. It takes no memory.
 pub fn over_solid(d: &mut [u8], s: u8, sa: u8)
     requires premultiplied { s ≤ sa }
@@ -81,4 +110,15 @@ pub fn over_row(d: &mut [u8], s: &[u8], sa: &[u8])
         ≡ over_byte (slice_index sa.now k) (slice_index s.now k) (slice_index d.old k)) }
 {
     step_row(d, &Source { s, sa });
+}
+
+/// A byte of a source under the alpha `sa` over each byte of a row, as far as a mask of the same length lets it through:
+/// both are scaled by the mask's byte, of 255. It takes no memory.
+pub fn over_masked(d: &mut [u8], s: u8, sa: u8, mask: &[u8])
+    requires mask { length mask.now ≡ length d.old }
+    requires premultiplied { s ≤ sa }
+    ensures { EachIndex d.new (λ k. slice_index d.new k ≡ over_byte (product sa (slice_index mask.now k))
+        (product s (slice_index mask.now k)) (slice_index d.old k)) }
+{
+    step_row(d, &Masked { s, sa, mask });
 }

@@ -1,2 +1,4 @@
 pub mod Levels
 pub mod Begun
+pub mod Planes
+pub mod Lines

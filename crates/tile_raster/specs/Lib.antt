@@ -1,2 +1,4 @@
 pub mod Drawing
 pub mod Levels
+pub mod Rows
+pub mod Spans
