@@ -2,3 +2,5 @@ pub mod Drawing
 pub mod Levels
 pub mod Rows
 pub mod Spans
+pub mod Notes
+pub mod Rasters

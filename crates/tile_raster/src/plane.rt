@@ -6,10 +6,12 @@ ghost use Rattle.blend_rules.specs.Planes.{channel};
 ghost use Rattle.primitives.specs.Colours.{primitive_colour};
 ghost use Rattle.span_kernels.specs.Bytes.{over_byte};
 ghost use Rattle.tile_raster.specs.Rows.{IsSpan, IsIn, IsPlanePainted};
-ghost use Rattle.tile_raster.specs.Spans.{IsFirst};
+ghost use Rattle.tile_raster.specs.Spans.{IsFirst, IsStrip, coverage_at};
 
 use crate::span::Span;
+use crate::strip::Strip;
 use blend_rules::{Mode, Plane};
+use clip_masks::{Clip, cover_row};
 use image_store::Store;
 use primitives::Primitive;
 use span_kernels::{blend_row, fill, over_masked, over_row, over_solid, scale_by, scale_row};
@@ -163,4 +165,14 @@ fn colour_row(primitive: &Primitive, store: &Store, p: Plane, y: i32, x0: i32, o
         };
         x = x.wrapping_add(1);
     }
+}
+
+/// Writes how much clips leave of the pixels of a strip, of 255.
+pub(crate) fn cover_plane(plane: &mut Vec<u8>, strip: Strip, clips: &[Clip])
+    requires { IsStrip strip (length plane.old.items) }
+    ensures { IsPlanePainted (λ k _. coverage_at clips.now strip.first k) strip.span plane.old.items plane.new.items }
+{
+    let Strip { first, span } = strip;
+    let part = plane.slice_mut(usize::from(span.from)..usize::from(span.to));
+    cover_row(clips, 255, first.y, first.x + i32::from(span.from), part);
 }
