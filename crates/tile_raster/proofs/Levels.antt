@@ -100,6 +100,13 @@ stays_more es depth from i n h k l j m a b at = elim (cases_lt j (i + 1)) [
 pub stays_here : (es : List Entry) (depth from : ℕ) → IsAt es depth from → StaysWithin es depth from from
 stays_here es depth from h j m a b at = omega (arith, balanced_once (drop from es) depth m h (subst (λ (u : ℕ). IsAt es m u) (omega arith) at))
 
+-- and one more before them
+pub stays_less : (es : List Entry) (depth i to n : ℕ) → StaysWithin es depth (i + 1) to → IsAt es n i → depth ≤ n → StaysWithin es depth i to
+stays_less es depth i to n h k l j m a b at = elim (cases_lt i j) [
+  | inl more ↦ h j m (omega (arith, more)) b at
+  | inr same ↦ omega (arith, l, one_level es n m i k (subst (λ (u : ℕ). IsAt es m u) (omega (arith, same, a)) at))
+]
+
 -- ---- positions between
 
 pub drop_between : (es : List Entry) (from i : ℕ) → from ≤ i → drop (i - from) (drop from es) ≡ drop i es

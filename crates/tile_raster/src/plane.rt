@@ -9,7 +9,7 @@ ghost use Rattle.tile_raster.specs.Rows.{IsSpan, IsIn, IsPlanePainted};
 ghost use Rattle.tile_raster.specs.Spans.{IsFirst, IsStrip, coverage_at};
 
 use crate::span::Span;
-use crate::strip::Strip;
+use crate::strip::{Strip, x_at};
 use blend_rules::{Mode, Plane};
 use clip_masks::{Clip, cover_row};
 use image_store::Store;
@@ -145,7 +145,7 @@ pub(crate) fn colour_plane(
         span plane.old.items plane.new.items }
 {
     let part = plane.slice_mut(usize::from(span.from)..usize::from(span.to));
-    let x = first.x + i32::from(span.from);
+    let x = x_at(first, span.from);
     colour_row(primitive, store, p, first.y, x, part);
 }
 
@@ -174,5 +174,5 @@ pub(crate) fn cover_plane(plane: &mut Vec<u8>, strip: Strip, clips: &[Clip])
 {
     let Strip { first, span } = strip;
     let part = plane.slice_mut(usize::from(span.from)..usize::from(span.to));
-    cover_row(clips, 255, first.y, first.x + i32::from(span.from), part);
+    cover_row(clips, 255, first.y, x_at(first, span.from), part);
 }

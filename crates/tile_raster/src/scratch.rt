@@ -26,14 +26,13 @@ pub struct Scratch {
 impl Model for Scratch {
     ghost use Rattle.std.specs.Prelude.{◌≡◌, length};
     ghost use Rattle.tile_raster.specs.Drawing.{ScratchModel};
-    ghost use Rattle.tile_raster.specs.Rows.{width};
     ghost use Rattle.tile_raster.specs.Rasters.{AreWide, IsFit};
 
     ghost Value = { ScratchModel };
 
     ghost view = { λ s. record { width = s.width; room = length s.notes.items } };
 
-    ghost invariant = { λ s. (width s.row ≡ s.width) × (length s.levels.items ≡ 65) × AreWide s.width s.levels.items × IsFit s.width s.tools };
+    ghost invariant = { λ s. (length s.row.alpha ≡ s.width) × (length s.levels.items ≡ 65) × AreWide s.width s.levels.items × IsFit s.width s.tools };
 }
 
 /// Rows for each level.

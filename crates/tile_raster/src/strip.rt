@@ -13,6 +13,14 @@ pub(crate) struct Strip {
     pub(crate) span: Span,
 }
 
+/// The x of the pixel at an index of a row.
+pub(crate) fn x_at(first: Point, k: u16) -> i32
+    requires { IsFirst first }
+    ensures { result ≡ x_of first k }
+{
+    first.x + i32::from(k)
+}
+
 /// The first place of a strip at or beyond an edge, or its end.
 fn place_of(edge: i32, strip: Strip) -> u16
     requires order { strip.span.from ≤ strip.span.to }
