@@ -2,9 +2,14 @@
 
 ghost use Rattle.std.specs.Prelude.{◌≡◌, ◌<◌, ◌*◌, length, replicate, IfOk};
 
-use crate::rows::{CORNERS, is_blended, is_scaled, is_woven, put_below, put_corners};
+use crate::rows::{
+    CORNERS, is_blended, is_repeated, is_scaled, is_woven, put_below, put_corners, put_indices,
+};
 use blend_rules::Mode;
-use span_kernels::{blend_row, copy, fill, over_row, over_solid, scale_by, scale_row, weave_row};
+use span_kernels::{
+    blend_row, copy, copy_repeated, fill, over_masked, over_row, over_solid, scale_by, scale_row,
+    weave_row,
+};
 use std::alloc::{AllocError, Global};
 use std::test::Fail;
 
@@ -73,6 +78,43 @@ fn covers_with_one(d: &mut [u8], old: &mut [u8], s: &mut [u8], sa: &mut [u8], da
         put_below(s, sa);
         copy(d, old);
         over_solid(d, byte, alpha);
+        if !is_blended(Mode::Normal, d, old, s, sa, da) {
+            return false;
+        }
+    }
+    true
+}
+
+/// Lays single corner bytes under masks of corner bytes over rows of corner bytes. The rows turn with the length.
+fn covers_under_masks(
+    d: &mut [u8],
+    old: &mut [u8],
+    s: &mut [u8],
+    sa: &mut [u8],
+    mask: &mut [u8],
+    da: &mut [u8],
+) -> bool
+    requires old { length old.old ≡ length d.old }
+    requires source { length s.old ≡ length d.old }
+    requires alphas { length sa.old ≡ length d.old }
+    requires mask { length mask.old ≡ length d.old }
+    requires backdrop_alphas { length da.old ≡ length d.old }
+{
+    fill(da, 255);
+    let turn = d.len() % 36;
+    for pair in 0..36 {
+        put_corners(old, (pair + turn) % 6);
+        put_corners(mask, (pair + turn) / 6 % 6);
+        put_below(old, da);
+        let alpha = CORNERS[pair / 6];
+        let byte = CORNERS[pair % 6].min(alpha);
+        fill(sa, alpha);
+        scale_row(sa, mask);
+        fill(s, byte);
+        scale_row(s, mask);
+        put_below(s, sa);
+        copy(d, old);
+        over_masked(d, byte, alpha, mask);
         if !is_blended(Mode::Normal, d, old, s, sa, da) {
             return false;
         }
@@ -165,6 +207,20 @@ fn covers_rows_with_one_byte(rt: HostRuntime) -> Result<(), Fail> {
     Ok(())
 }
 
+#[test]
+fn covers_rows_under_masks(rt: HostRuntime) -> Result<(), Fail> {
+    for length in 0..68 {
+        let (mut d, mut old) = (zeros(rt.alloc(), length)?, zeros(rt.alloc(), length)?);
+        let (mut s, mut sa) = (zeros(rt.alloc(), length)?, zeros(rt.alloc(), length)?);
+        let (mut mask, mut da) = (zeros(rt.alloc(), length)?, zeros(rt.alloc(), length)?);
+        assert!(rt;
+            covers_under_masks(&mut d, &mut old, &mut s, &mut sa, &mut mask, &mut da),
+            "length {length}"
+        );
+    }
+    Ok(())
+}
+
 /// Blends rows of a length in a mode.
 fn blends_length(alloc: Global, m: Mode, length: usize) -> Result<bool, AllocError>
     requires { length < 512 }
@@ -199,6 +255,31 @@ fn weaves_rows_of_every_length(rt: HostRuntime) -> Result<(), Fail> {
             weaves(&mut b, &mut g, &mut r, &mut a, &mut out),
             "length {length}"
         );
+    }
+    Ok(())
+}
+
+/// Repeats a row of indices from each of its bytes on.
+fn repeats(d: &mut [u8], s: &mut [u8]) -> bool
+    requires { length s.old ≤ 256 }
+{
+    put_indices(s);
+    for first in 0..s.len() {
+        copy_repeated(d, s, first);
+        if !is_repeated(d, s, first) {
+            return false;
+        }
+    }
+    true
+}
+
+#[test]
+fn repeats_rows_of_every_length(rt: HostRuntime) -> Result<(), Fail> {
+    for length in 0..68 {
+        for period in [1, 2, 3, 5, 16, 31, 67, 80] {
+            let (mut d, mut s) = (zeros(rt.alloc(), length)?, zeros(rt.alloc(), period)?);
+            assert!(rt; repeats(&mut d, &mut s), "length {length}, period {period}");
+        }
     }
     Ok(())
 }

@@ -16,6 +16,16 @@ pub(crate) fn put_corners(row: &mut [u8], first: usize)
     }
 }
 
+/// Sets each byte of a row to its index.
+pub(crate) fn put_indices(row: &mut [u8])
+    requires { length row.old ≤ 256 }
+    ensures { length row.new ≡ length row.old }
+{
+    for i in 0..row.len() {
+        row[i] = i as u8;
+    }
+}
+
 /// Lessens each byte of a row to that of another.
 pub(crate) fn put_below(row: &mut [u8], most: &[u8])
     requires { length most.now ≡ length row.old }
@@ -79,6 +89,18 @@ pub(crate) fn is_woven(out: &[u8], b: &[u8], g: &[u8], r: &[u8], a: &[u8]) -> bo
     for i in 0..b.len() {
         let pixel = [out[4 * i], out[4 * i + 1], out[4 * i + 2], out[4 * i + 3]];
         if pixel != [b[i], g[i], r[i], a[i]] {
+            return false;
+        }
+    }
+    true
+}
+
+/// Whether a row has the bytes of another again and again, from one of them on.
+pub(crate) fn is_repeated(out: &[u8], row: &[u8], first: usize) -> bool
+    requires { first < length row.now }
+{
+    for i in 0..out.len() {
+        if out[i] != row[(first + i % row.len()) % row.len()] {
             return false;
         }
     }

@@ -98,6 +98,11 @@ mask_is_byte (Some mask) h x y = by_test (holds (mask_rect mask) x y)
     by_test true = (h mask refl).bytes (unsigned_abs y * mask.w + unsigned_abs x)
     by_test false = omega arith
 
+pub use_is_byte : (store : StoreModel) → IsStore store → (pipeline font : ℕ) (g : GlyphUse) (x y : ℤ) → mask_coverage (resource_of_use g.generation (glyph_at store pipeline font g.glyph)) x y < 2 ^ 8
+use_is_byte store h pipeline font g x y =
+    let stored = glyph_at store pipeline font g.glyph in
+    mask_is_byte (resource_of_use g.generation stored) (λ mask e. h.masks pipeline font g.glyph mask (used_stored g.generation stored mask e)) x y
+
 mask_over_pixel : (o : Option MaskModel) → ((mask : MaskModel) → o ≡ Some mask → IsMask mask) → (at : Point) (colour so_far : Px) (x y : ℤ) → IsPixel colour → IsPixel so_far → IsPixel (mask_over o at colour so_far x y)
 mask_over_pixel o h at colour so_far x y c s =
     let n = mask_coverage o (x -ℤ at.x) (y -ℤ at.y) in

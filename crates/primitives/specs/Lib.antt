@@ -5,5 +5,6 @@ pub mod Facts
 pub mod Laws
 pub mod Moves
 pub mod PrimitiveModel
+pub mod Rows
 pub mod Stacks
 pub mod Tops

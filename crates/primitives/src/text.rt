@@ -12,7 +12,7 @@ use image_store::{Mask, Store, know_store};
 use wr_geom::Point;
 
 /// What a use of a mask draws: what is stored now, and nothing where it carries no generation.
-fn used_mask(store: &Store, pipeline: u8, font: u16, g: GlyphUse) -> Option<&Mask>
+pub(crate) fn used_mask(store: &Store, pipeline: u8, font: u16, g: GlyphUse) -> Option<&Mask>
     ensures { option_copied result ≡ resource_of_use g.generation (glyph_at store.now pipeline font g.glyph) }
 {
     match g.generation {
@@ -47,7 +47,7 @@ fn coverage_of(mask: Option<&Mask>, x: i64, y: i64) -> u8
 }
 
 /// How far a coordinate lies beyond another, in pixels.
-fn distance(z: i32, from: i32) -> i64
+pub(crate) fn distance(z: i32, from: i32) -> i64
     ensures { result ≡ z -ℤ from }
 {
     z as i64 - from as i64

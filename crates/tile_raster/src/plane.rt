@@ -13,7 +13,7 @@ use crate::strip::{Strip, x_at};
 use blend_rules::{Mode, Plane};
 use clip_masks::{Clip, cover_row};
 use image_store::Store;
-use primitives::Primitive;
+use primitives::{Primitive, colour_row};
 use span_kernels::{blend_row, fill, over_masked, over_row, over_solid, scale_by, scale_row};
 use wr_geom::Point;
 
@@ -147,24 +147,6 @@ pub(crate) fn colour_plane(
     let part = plane.slice_mut(usize::from(span.from)..usize::from(span.to));
     let x = x_at(first, span.from);
     colour_row(primitive, store, p, first.y, x, part);
-}
-
-// To be replaced by that of primitives.
-fn colour_row(primitive: &Primitive, store: &Store, p: Plane, y: i32, x0: i32, out: &mut [u8])
-    ensures { EachIndex out.new (λ k. slice_index out.new k
-        ≡ channel p (primitive_colour store.now primitive.now (x0 +ℤ pos k) y)) }
-{
-    let mut x = x0;
-    for byte in out.iter_mut() {
-        let colour = primitives::colour_at(primitive, store, x, y);
-        *byte = match p {
-            Plane::B => colour.b,
-            Plane::G => colour.g,
-            Plane::R => colour.r,
-            Plane::A => colour.a,
-        };
-        x = x.wrapping_add(1);
-    }
 }
 
 /// Writes how much clips leave of the pixels of a strip, of 255.

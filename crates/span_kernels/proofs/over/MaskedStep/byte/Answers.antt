@@ -1,4 +1,3 @@
-use Rattle.std.proofs.Common.{get_or}
 use Rattle.blend_rules.proofs.Products.{product-mono}
 use Rattle.span_kernels.proofs.over.MaskedStep.byte.Goals as goal
 
