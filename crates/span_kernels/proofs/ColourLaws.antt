@@ -1,12 +1,7 @@
 -- The kernels' bytes are the colour rules', plane by plane.
 use Rattle.std.proofs.Common.{ℕ, ◌∷◌, [], refl, ap, ap₂, sym, ◌∙◌}
 use Rattle.blend_rules.specs.declared.plane.Plane.TheVariants.{B, G, R, A}
-<<<<<<< HEAD
-use Rattle.blend_rules.specs.declared.mode.Mode.TheVariants.{Normal}
-use Rattle.blend_rules.specs.Colour.{product, scaled, blended, source_over, colour_bytes}
-=======
 use Rattle.blend_rules.specs.Colour.{scaled, blended, source_over, colour_bytes}
->>>>>>> ea5ae3620683f3060f3ecd6da1ef405c5bba4641
 use Rattle.blend_rules.specs.Planes.{channel}
 use Rattle.blend_rules.proofs.Blends.{normal_needs_no_limit, scaled_is_pixel}
 use Rattle.span_kernels.specs.Bytes.{over_byte}
