@@ -77,6 +77,9 @@ before_primitive es n i q d h = ap (balanced n) d ∙ h
 pub after_push : (es : List Entry) (n i o : ℕ) (b : Mode) (c : List Clip) → drop i es ≡ entry.Push o b c ∷ drop (i + 1) es → IsAt es n i → IsAt es (suc n) (i + 1)
 after_push es n i o b c d h = sym (ap (balanced n) d) ∙ h
 
+pub before_push : (es : List Entry) (n i o : ℕ) (b : Mode) (c : List Clip) → drop i es ≡ entry.Push o b c ∷ drop (i + 1) es → IsAt es (suc n) (i + 1) → IsAt es n i
+before_push es n i o b c d h = ap (balanced n) d ∙ h
+
 pub after_pop : (es : List Entry) (n i : ℕ) → drop i es ≡ entry.Pop ∷ drop (i + 1) es → IsAt es (suc n) i → IsAt es n (i + 1)
 after_pop es n i d h = sym (ap (balanced (suc n)) d) ∙ h
 

@@ -6,3 +6,4 @@ pub mod Painting
 pub mod Taken
 pub mod Spans
 pub mod Covered
+pub mod Entries

@@ -1,6 +1,8 @@
 -- A span of a plane, written over.
-use Rattle.std.proofs.Common.{◌≡◌, ℕ, ◌+◌, ◌-◌, ◌<◌, ◌≤◌, List, length, take, drop, slice_index, inl, inr, sym, ap, subst, ◌∙◌, arith}
+use Rattle.std.proofs.Common.{◌≡◌, ◌≢◌, ℕ, ◌+◌, ◌-◌, ◌<◌, ◌≤◌, List, length, take, drop, slice_index, inl, inr, sym, ap, subst, ◌∙◌, arith}
 use Rattle.std.proofs.lemmas.List.{get_or-take, get_or-drop}
+use Rattle.blend_rules.specs.declared.plane.Plane.{Plane}
+use Rattle.blend_rules.specs.declared.plane.Plane.TheVariants.{B, G, R, A}
 use Rattle.blend_rules.specs.Colour.{blended_channel}
 use Rattle.blend_rules.specs.declared.mode.Mode.{Mode}
 use Rattle.span_kernels.specs.Bytes.{over_byte}
@@ -42,3 +44,32 @@ pub over_under : (sa sb : List ℕ) (span : Span) (old new : List ℕ) → sa �
     → IsPlanePainted (λ k d. over_byte (slice_index sa k) (slice_index sa k) d) span old new
     → IsPlanePainted (λ k d. over_byte (slice_index sb k) (slice_index sb k) d) span old new
 over_under sa sb span old new e h = subst (λ (l : List ℕ). IsPlanePainted (λ k d. over_byte (slice_index l k) (slice_index l k) d) span old new) e h
+
+-- ---- planes are apart
+
+abbrev number : Plane → ℕ
+number B = 0
+number G = 1
+number R = 2
+number A = 3
+
+pub apart : (p q : Plane) → number p ≢ number q → p ≢ q
+apart p q h e = h (ap number e)
+
+pub b≢g : B ≢ G
+b≢g = apart B G (λ e. omega (arith, e))
+
+pub b≢r : B ≢ R
+b≢r = apart B R (λ e. omega (arith, e))
+
+pub b≢a : B ≢ A
+b≢a = apart B A (λ e. omega (arith, e))
+
+pub g≢r : G ≢ R
+g≢r = apart G R (λ e. omega (arith, e))
+
+pub g≢a : G ≢ A
+g≢a = apart G A (λ e. omega (arith, e))
+
+pub r≢a : R ≢ A
+r≢a = apart R A (λ e. omega (arith, e))

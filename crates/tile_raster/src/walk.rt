@@ -173,8 +173,9 @@ fn draw_top(
             i + 1
         }
         Entry::Push { .. } => {
+            let next = note.partner + 1;
             draw_group(drawing, level, i, note, strip, row, rows, deeper, tools);
-            note.partner + 1
+            next
         }
         Entry::Pop => unreachable!(),
     }

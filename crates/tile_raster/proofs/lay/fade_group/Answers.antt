@@ -33,4 +33,4 @@ returns-else-not-is_whole-clause-group c =
           (painted_same (λ (k : ℕ) (d : Px). scaled d o) s c.args.group.now (λ k d. ap (scaled d) (omega (arith, w.if-opacity-ne255.false)) ∙ scaled_by_full d))
     ] in
     painted_as (λ (k : ℕ) (d : Px). scaled d o) (λ (k : ℕ) (d : Px). scaled (scaled d o) (coverage_at c.args.clips.now c.args.strip.first k)) s _ _
-    (λ k h. sym (scaled_by_full (scaled (pixel c.args.group.now k) o)) ∙ ap (scaled (scaled (pixel c.args.group.now k) o)) (sym (c.requires.whole ? k h))) faded
+    (λ k h. sym (scaled_by_full (scaled (pixel c.args.group.now k) o)) ∙ ap (scaled (scaled (pixel c.args.group.now k) o)) (sym (c.requires.whole c.if-not-is_whole.false k h))) faded

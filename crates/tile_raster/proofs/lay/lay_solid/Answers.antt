@@ -2,11 +2,12 @@ use Rattle.std.proofs.Common.{◌≡◌, ℕ, List, slice_index, ap, ◌∙◌}
 use Rattle.blend_rules.specs.Colour.{scaled, blended}
 use Rattle.blend_rules.specs.declared.colour.Px.{Px}
 use Rattle.blend_rules.specs.declared.mode.Mode.TheVariants.{Normal}
+use Rattle.clip_masks.specs.declared.clip.Clip.{Clip}
 use Rattle.clip_masks.proofs.Chains.{cut_inside, within_cut}
 use Rattle.primitives.specs.Colours.{primitive_colour}
 use Rattle.tile_raster.specs.Levels.{over_primitive}
 use Rattle.tile_raster.specs.Rows.{pixel, IsIn}
-use Rattle.tile_raster.specs.Spans.{x_of}
+use Rattle.tile_raster.specs.Spans.{x_of, coverage_at}
 use Rattle.tile_raster.proofs.Painting.{painted_as}
 use Rattle.tile_raster.proofs.Covered.{solid_colour, covered_under, covered_whole, over_as}
 use Rattle.tile_raster.proofs.lay.lay_solid.Goals as goal
@@ -32,5 +33,5 @@ returns-else-noted-clause-row c =
     let mask = c.deref.result.now in
     painted_as (λ (k : ℕ) (d : Px). blended Normal (scaled c.args.colour (slice_index mask k)) d) (λ (k : ℕ) (d : Px). over_primitive store p (x_of first k) first.y d) c.args.strip.span _ _
     (λ k h. over_as store p (x_of first k) first.y (scaled c.args.colour (slice_index mask k)) _ (covered_under store p (x_of first k) first.y c.args.colour (slice_index mask k) (own k h)
-        (ap (λ (l : List ℕ). slice_index l k) c.deref.ensures.value ∙ c.cover_plane.ensures.inside k h ∙ ?)))
+        (ap (λ (l : List ℕ). slice_index l k) c.deref.ensures.value ∙ c.cover_plane.ensures.inside k h ∙ ap (λ (cs : List Clip). coverage_at cs first k) c.clips.ensures.value)))
     c.over_masked.ensures
