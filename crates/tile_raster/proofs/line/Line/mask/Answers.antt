@@ -1,0 +1,36 @@
+use Rattle.std.proofs.Common.{ℕ, ◌≡◌, ◌<◌, ◌≤◌, ◌^◌, slice_index, subst, refl, ap, ◌∙◌, arith}
+use Rattle.blend_rules.specs.Colour.{IsPixel, product, scaled, blended, blended_channel}
+use Rattle.blend_rules.specs.declared.colour.Px.{Px}
+use Rattle.blend_rules.specs.declared.mode.Mode.TheVariants.{Normal}
+use Rattle.blend_rules.proofs.Blends.{blend_is_pixel, scaled_is_pixel}
+use Rattle.span_kernels.specs.Bytes.{over_byte}
+use Rattle.primitives.specs.Colours.{primitive_colour}
+use Rattle.primitives.proofs.Colours.{colour_is_pixel}
+use Rattle.tile_raster.specs.Rows.{LineModel, pixel, IsLine, IsIn, IsPainted}
+use Rattle.tile_raster.specs.Spans.{x_of}
+use Rattle.tile_raster.proofs.Lines.{planes_painted, painted_line, over_by_planes, scaled_by_planes, blended_by_planes}
+use Rattle.tile_raster.proofs.line.Line.mask.Goals as goal
+
+pub invariant_of-self : goal.invariant_of-self
+invariant_of-self c =
+    let i = c.self.inside in
+    let old : LineModel = record { blue = i.blue.items; green = i.green.items; red = i.red.items; alpha = i.alpha.items } in
+    let new : LineModel = record { blue = c.mask_plane.new.plane.items; green = c.mask_plane-2.new.plane.items; red = c.mask_plane-3.new.plane.items; alpha = c.mask_plane-4.new.plane.items } in
+    painted_line (λ (k : ℕ) (d : Px). scaled d (slice_index c.args.mask.now k))
+    (λ (k : ℕ) (d : ℕ). product d (slice_index c.args.mask.now k)) (λ (k : ℕ) (d : ℕ). product d (slice_index c.args.mask.now k))
+    (λ (k : ℕ) (d : ℕ). product d (slice_index c.args.mask.now k)) (λ (k : ℕ) (d : ℕ). product d (slice_index c.args.mask.now k)) c.args.span old new
+    c.mask_plane.ensures c.mask_plane-2.ensures c.mask_plane-3.ensures c.mask_plane-4.ensures
+    (λ k h. scaled_by_planes (pixel old k) (slice_index c.args.mask.now k)) c.self.invariant
+    (λ k h. scaled_is_pixel (pixel old k) (slice_index c.args.mask.now k) (omega (arith, c.type_inv.mask k)) (c.self.invariant.pixels k))
+
+pub returns : goal.returns
+returns c =
+    let i = c.self.inside in
+    let old : LineModel = record { blue = i.blue.items; green = i.green.items; red = i.red.items; alpha = i.alpha.items } in
+    let new : LineModel = record { blue = c.mask_plane.new.plane.items; green = c.mask_plane-2.new.plane.items; red = c.mask_plane-3.new.plane.items; alpha = c.mask_plane-4.new.plane.items } in
+    subst (λ (line : LineModel). IsPainted (λ (k : ℕ) (d : Px). scaled d (slice_index c.args.mask.now k)) c.args.span line new) c.self.view_is
+    (planes_painted (λ (k : ℕ) (d : Px). scaled d (slice_index c.args.mask.now k))
+    (λ (k : ℕ) (d : ℕ). product d (slice_index c.args.mask.now k)) (λ (k : ℕ) (d : ℕ). product d (slice_index c.args.mask.now k))
+    (λ (k : ℕ) (d : ℕ). product d (slice_index c.args.mask.now k)) (λ (k : ℕ) (d : ℕ). product d (slice_index c.args.mask.now k)) c.args.span old new
+    c.mask_plane.ensures c.mask_plane-2.ensures c.mask_plane-3.ensures c.mask_plane-4.ensures
+    (λ k h. scaled_by_planes (pixel old k) (slice_index c.args.mask.now k)))

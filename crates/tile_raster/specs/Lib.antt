@@ -1,0 +1,6 @@
+pub mod Drawing
+pub mod Levels
+pub mod Rows
+pub mod Spans
+pub mod Notes
+pub mod Rasters
