@@ -58,7 +58,14 @@ fn take_top(
                     number: last,
                     is_whole: note.is_whole,
                 };
-                take_opaque(noted, note.shown, strip, &mut rows.cover, &mut tools.mask, row);
+                take_opaque(
+                    noted,
+                    note.shown,
+                    strip,
+                    &mut rows.cover,
+                    &mut tools.mask,
+                    row,
+                );
             }
             last
         }
@@ -235,7 +242,14 @@ fn draw_group(
         };
         draw_level(drawing, members, inside, &mut rows.inner, deeper, tools);
         let clips = clips.as_slice();
-        fade_group(*opacity, clips, note.is_whole, inside, &mut tools.mask, &mut rows.inner);
+        fade_group(
+            *opacity,
+            clips,
+            note.is_whole,
+            inside,
+            &mut tools.mask,
+            &mut rows.inner,
+        );
         lay_group(&rows.inner, *mode, i as u32, inside, &rows.cover, row);
     }
 }
