@@ -1,6 +1,6 @@
 //! Each kernel against the colour rules, on rows of every length from 0 to 67.
 
-ghost use Rattle.std.specs.Prelude.{◌≡◌, ◌<◌, ◌*◌, length, replicate, IfOk};
+ghost use Rattle.std.specs.Prelude.{◌≡◌, ◌≤◌, ◌<◌, ◌*◌, length, replicate, IfOk};
 
 use crate::rows::{
     CORNERS, is_blended, is_repeated, is_scaled, is_woven, put_below, put_corners, put_indices,
