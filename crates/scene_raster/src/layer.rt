@@ -9,7 +9,6 @@ ghost use Rattle.scene_raster.specs.Parts.{HavePixels, HaveSides, rect_of};
 
 use image_store::{Store, know_store};
 use picture_slices::Slice;
-
 use span_kernels::Planes;
 use std::alloc::Global;
 use std::marker::Model;

@@ -12,10 +12,8 @@ ghost use Rattle.scene_raster.specs.Parts.{HavePixels, HaveSides, rect_of};
 use crate::lay::lay;
 use crate::layer::Layer;
 use crate::part::part_of;
-
 use image_store::{Store, know_store};
 use picture_slices::Slice;
-
 use span_kernels::Planes;
 use wr_geom::NoMemory;
 

@@ -7,10 +7,9 @@ use Rattle.std.proofs.lemmas.List.Elements.{All-get_or}
 use Rattle.blend_rules.specs.declared.mode.Mode.{Mode}
 use Rattle.clip_masks.specs.declared.clip.Clip.{Clip}
 use Rattle.primitives.specs.PrimitiveModel.{PrimitiveModel}
-use Rattle.primitives.specs.Stacks.{balanced}
+use Rattle.primitives.specs.Stacks.{balanced, is_shallow}
 use Rattle.primitives.specs.declared.entry.Entry.{Entry}
 use Rattle.primitives.specs.declared.entry.Entry.TheVariants as entry
-use Rattle.tile_raster.specs.Drawing.{is_shallow}
 use Rattle.tile_raster.specs.Levels.{IsAt, StaysWithin, IsBelow, IsGroupEnd}
 
 -- a list ends so many groups and no other number

@@ -146,7 +146,10 @@ pub(crate) fn lay_group(
     requires group { width group.now ≡ width row.old }
     ensures { IsPainted (painted_above (λ k d. blended mode (pixel group.now k) d) depth cover.now) strip.span row.old row.new }
 {
-    let Span { from: start, to: end } = strip.span;
+    let Span {
+        from: start,
+        to: end,
+    } = strip.span;
     let mut next = start;
     'parts: while let Some((from, to)) = cover.next_above(next, end, depth) {
         row.blend(Span { from, to }, mode, group);

@@ -154,14 +154,7 @@ impl Line {
             alphas,
             &self.alpha,
         );
-        blend_plane(
-            mode,
-            &mut self.red,
-            span,
-            &source.red,
-            alphas,
-            &self.alpha,
-        );
+        blend_plane(mode, &mut self.red, span, &source.red, alphas, &self.alpha);
         row_over_plane(&mut self.alpha, span, alphas, alphas);
     }
 

@@ -2,9 +2,9 @@
 
 ghost use Rattle.std.specs.Prelude.{◌≡◌, ◌≢◌, ◌≤◌, ◌<◌, ◌+◌, ◌-◌, ◌^◌, ◌+ℤ◌, pos, ℕ, length, slice_index, IsTrue};
 ghost use Rattle.blend_rules.specs.declared.plane.Plane.{Plane};
-ghost use Rattle.primitives.specs.Stacks.{balanced, value_at};
+ghost use Rattle.primitives.specs.Stacks.{balanced, is_shallow, value_at};
 ghost use Rattle.span_kernels.specs.PlanesModel.{pixel_at, byte_at};
-ghost use Rattle.tile_raster.specs.Drawing.{is_shallow, IsCorner};
+ghost use Rattle.tile_raster.specs.Drawing.{IsCorner};
 ghost use Rattle.tile_raster.specs.Levels.{IsBelow};
 ghost use Rattle.tile_raster.specs.Rows.{width, pixel};
 ghost use Rattle.tile_raster.specs.Spans.{IsFirst, x_of};

@@ -58,7 +58,10 @@ fn beyond_edges(alloc: Global, width: u8) -> Result<Entries, AllocError> {
     entries.push(128, Mode::Difference)?;
     entries.primitive(Kind::Solid(colour(70, 0, 0, 90)), rect(2, 1, 120, 9))?;
     entries.pop()?;
-    entries.primitive(Kind::Solid(colour(1, 2, 3, 255)), rect(width as i8 - 1, 0, 9, 9))?;
+    entries.primitive(
+        Kind::Solid(colour(1, 2, 3, 255)),
+        rect(width as i8 - 1, 0, 9, 9),
+    )?;
     Ok(entries)
 }
 
@@ -88,8 +91,14 @@ fn an_opaque_primitive_hides_what_is_before_it_alone(rt: HostRuntime) -> Result<
     let mut entries = Entries::new(rt.alloc());
     entries.primitive(Kind::Solid(colour(99, 0, 0, 100)), rect(0, 0, 1, 1))?;
     entries.primitive(Kind::Solid(colour(0, 0, 255, 255)), rect(0, 0, 1, 1))?;
-    assert_eq!(rt; pixel_of(rt.alloc(), entries.all.as_slice())?, Some(colour(0, 0, 255, 255)));
+    assert_eq!(rt;
+        pixel_of(rt.alloc(), entries.all.as_slice())?,
+        Some(colour(0, 0, 255, 255))
+    );
     entries.primitive(Kind::Solid(colour(100, 100, 100, 100)), rect(0, 0, 1, 1))?;
-    assert_eq!(rt; pixel_of(rt.alloc(), entries.all.as_slice())?, Some(colour(100, 100, 255, 255)));
+    assert_eq!(rt;
+        pixel_of(rt.alloc(), entries.all.as_slice())?,
+        Some(colour(100, 100, 255, 255))
+    );
     Ok(())
 }

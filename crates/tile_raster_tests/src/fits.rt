@@ -2,7 +2,7 @@
 
 ghost use Rattle.std.specs.Prelude.{◌<◌, ◌-◌, ◌^◌, IsTrue, length};
 ghost use Rattle.primitives.specs.Stacks.{balanced};
-ghost use Rattle.tile_raster.specs.Drawing.{is_shallow};
+ghost use Rattle.primitives.specs.Stacks.{is_shallow};
 
 use primitives::Entry;
 

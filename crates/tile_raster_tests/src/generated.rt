@@ -118,7 +118,11 @@ fn rolled_entries(alloc: Global, rolls: &mut Rolls, count: u8) -> Result<Entries
         match rolls.below(5) {
             0 => {
                 rolled_clips(&mut entries, rolls)?;
-                let opacity = if rolls.below(2) == 0 { 255 } else { rolls.below(255) };
+                let opacity = if rolls.below(2) == 0 {
+                    255
+                } else {
+                    rolls.below(255)
+                };
                 entries.push(opacity, mode(rolls.below(9)))?;
                 opened = opened.saturating_add(1);
             }
@@ -138,7 +142,12 @@ fn rolled_entries(alloc: Global, rolls: &mut Rolls, count: u8) -> Result<Entries
 }
 
 /// Whether a list of a seed is drawn as it is painted, in planes of one of five widths.
-fn is_drawn(alloc: Global, seed: u8, store: &Store, scratch: &mut Scratch) -> Result<bool, NoMemory> {
+fn is_drawn(
+    alloc: Global,
+    seed: u8,
+    store: &Store,
+    scratch: &mut Scratch,
+) -> Result<bool, NoMemory> {
     let mut rolls = Rolls::new(u64::from(seed));
     let count = rolls.below(14);
     let made = rolled_entries(alloc, &mut rolls, count)?;

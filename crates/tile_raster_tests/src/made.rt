@@ -74,7 +74,12 @@ impl Entries {
     }
 
     /// A clip for the next entry, with round corners where they fit.
-    pub(crate) fn clip(&mut self, rect: Option<Rect>, radius: u16, out: bool) -> Result<(), AllocError> {
+    pub(crate) fn clip(
+        &mut self,
+        rect: Option<Rect>,
+        radius: u16,
+        out: bool,
+    ) -> Result<(), AllocError> {
         let Some(rect) = rect else {
             return Ok(());
         };

@@ -39,8 +39,8 @@ returns c =
     let long : length bytes ≡ to - from = omega (arith, same, c.row_mut.ensures.len) in
     put_row (λ (x : ℕ). over_byte (byte_at A layer x y) (byte_at p layer x y) (byte_at p frame x y)) p y from to frame _ bytes c.requires.order long (c.row_mut.ensures.stays bytes long)
     (λ k h.
-        let source = cut_byte p layer y from to start end k c.row.result.now c.from-start.ensures c.from-end.ensures c.row.ensures.value wide h in
-        let alpha = cut_byte A layer y from to start end k c.row-2.result.now c.from-start.ensures c.from-end.ensures c.row-2.ensures.value wide h in
-        let backdrop = ap (λ (l : List ℕ). get_or l k 0) c.row_mut.ensures.value ∙ part_byte p frame y from (to - from) k h in
-        c.over_row.ensures k (omega (arith, h, long)) ∙ ap₂ (λ (sa s : ℕ). over_byte sa s (get_or c.row_mut.result.now k 0)) alpha source
-        ∙ ap (λ (d : ℕ). over_byte (byte_at A layer (from + k) y) (byte_at p layer (from + k) y) d) backdrop)
+    let source = cut_byte p layer y from to start end k c.row.result.now c.from-start.ensures c.from-end.ensures c.row.ensures.value wide h in
+    let alpha = cut_byte A layer y from to start end k c.row-2.result.now c.from-start.ensures c.from-end.ensures c.row-2.ensures.value wide h in
+    let backdrop = ap (λ (l : List ℕ). get_or l k 0) c.row_mut.ensures.value ∙ part_byte p frame y from (to - from) k h in
+    c.over_row.ensures k (omega (arith, h, long)) ∙ ap₂ (λ (sa s : ℕ). over_byte sa s (get_or c.row_mut.result.now k 0)) alpha source
+    ∙ ap (λ (d : ℕ). over_byte (byte_at A layer (from + k) y) (byte_at p layer (from + k) y) d) backdrop)

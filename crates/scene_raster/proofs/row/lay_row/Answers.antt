@@ -41,7 +41,7 @@ returns c =
     let a : IsRowPut (f A) A y from to v w = laid_as layer s v y A from to w v_is c.lay_plane-4.ensures in
     drawn_as _ _ y from to s w
     (λ x low high.
-        let source = c.requires.layer x y (omega (arith, high, c.requires.inside, c.requires.sides.width)) (omega (arith, c.requires.row, c.requires.sides.height)) in
-        let backdrop = c.requires.frame x (omega (arith, high, c.requires.inside)) in
-        sym (normal_needs_no_limit (pixel_at layer x y) (pixel_at s x y) source.premultiplied backdrop.premultiplied source.byte backdrop.byte))
+    let source = c.requires.layer x y (omega (arith, high, c.requires.inside, c.requires.sides.width)) (omega (arith, c.requires.row, c.requires.sides.height)) in
+    let backdrop = c.requires.frame x (omega (arith, high, c.requires.inside)) in
+    sym (normal_needs_no_limit (pixel_at layer x y) (pixel_at s x y) source.premultiplied backdrop.premultiplied source.byte backdrop.byte))
     (row_drawn f y from to s t u v w b g r a)

@@ -19,7 +19,7 @@ returns-clause-row c =
     let row = c.args.row.now in
     let beside : (k : ℕ) → IsIn c.args.strip.span k → (k < shown.from) ⊎ (shown.to ≤ k) → painted_above f t.number c.args.cover.now k (pixel row k) ≡ pixel row k = λ k h o.
     above_still f t.number c.args.cover.now k (pixel row k) (over_hidden store p (x_of first k) first.y (pixel row k) c.requires.noted.store c.requires.noted.primitive (c.know_pixels.ensures k)
-        (rw c.requires.visible at c.cut_strip-shown.ensures.outside k h o)) in
+    (rw c.requires.visible at c.cut_strip-shown.ensures.outside k h o)) in
     painted_wider (painted_above f t.number c.args.cover.now) (record { from = shown.from; to = c.parts.next }) c.args.strip.span row c.parts.row c.cut_strip-shown.ensures.left
     (omega (arith, c.parts.invariant.right, c.cut_strip-shown.ensures.right))
     (λ k h o. elim o [

@@ -33,5 +33,5 @@ returns-else-noted-clause-row c =
     let mask = c.deref.result.now in
     painted_as (λ (k : ℕ) (d : Px). blended Normal (scaled c.args.colour (slice_index mask k)) d) (λ (k : ℕ) (d : Px). over_primitive store p (x_of first k) first.y d) c.args.strip.span _ _
     (λ k h. over_as store p (x_of first k) first.y (scaled c.args.colour (slice_index mask k)) _ (covered_under store p (x_of first k) first.y c.args.colour (slice_index mask k) (own k h)
-        (ap (λ (l : List ℕ). slice_index l k) c.deref.ensures.value ∙ c.cover_plane.ensures.inside k h ∙ ap (λ (cs : List Clip). coverage_at cs first k) c.clips.ensures.value)))
+    (ap (λ (l : List ℕ). slice_index l k) c.deref.ensures.value ∙ c.cover_plane.ensures.inside k h ∙ ap (λ (cs : List Clip). coverage_at cs first k) c.clips.ensures.value)))
     c.over_masked.ensures
