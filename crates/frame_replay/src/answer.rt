@@ -6,7 +6,7 @@ ghost use Rattle.scene_state.specs.Outcome.{Answers};
 ghost use Rattle.frame_replay.specs.Answer.{accepted, accepted_record, next_state, record_of, refusal_record};
 
 use crate::frame::put_frame;
-use crate::pixels::PutPixels;
+use crate::pixel_source::PixelSource;
 use field_forms::{put_byte, put_u32};
 use image_store::Gens;
 use scene_state::{ApplyError, Scene};
@@ -23,7 +23,7 @@ fn put_refusal(out: &mut Vec<u8>, fault: Fault) -> Result<(), AllocError>
 }
 
 /// Appends the record of an accepted transaction: the scene's frame where it asks for one.
-fn put_accepted<P: PutPixels>(
+fn put_accepted<P: PixelSource>(
     alloc: Global,
     scene: &Scene,
     frame: bool,
@@ -70,7 +70,7 @@ pub(crate) fn apply(
 
 /// Puts the record that answers a payload into `out`, and takes the scene and the counter of generations to what
 /// follows. A payload that is refused leaves both.
-pub(crate) fn answer<P: PutPixels>(
+pub(crate) fn answer<P: PixelSource>(
     alloc: Global,
     payload: &[u8],
     scene: &mut Scene,

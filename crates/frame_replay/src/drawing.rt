@@ -6,7 +6,7 @@ ghost use Rattle.blend_rules.specs.Colour.{colour_bytes};
 ghost use Rattle.span_kernels.specs.PlanesModel.{pixel_at};
 ghost use Rattle.frame_replay.specs.Frame.{row_by_row, view_pixels};
 
-use crate::pixels::PutPixels;
+use crate::pixel_source::PixelSource;
 use scene_raster::Canvas;
 use scene_state::Scene;
 use span_kernels::{Planes, know_planes, weave_row};
@@ -83,7 +83,7 @@ impl Drawing {
     }
 }
 
-impl PutPixels for Drawing {
+impl PixelSource for Drawing {
     fn put_pixels(
         &mut self,
         alloc: Global,

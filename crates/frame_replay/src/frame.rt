@@ -4,7 +4,7 @@ ghost use Rattle.std.specs.Prelude.{◌≡◌, ◌++◌, OnOk};
 ghost use Rattle.frame_replay.specs.Frame.{frame_record};
 
 use crate::drawn::put_drawn;
-use crate::pixels::PutPixels;
+use crate::pixel_source::PixelSource;
 use field_forms::{put_byte, put_u16};
 use scene_state::Scene;
 use std::alloc::{AllocError, Global};
@@ -19,7 +19,7 @@ fn frame_bytes(width: u16, height: u16) -> usize {
 
 /// Appends the record of a scene's frame. Memory is taken once, for all of it.
 #[tactic(auto, unfolding(crate::specs::Frame::frame_record))]
-pub(crate) fn put_frame<P: PutPixels>(
+pub(crate) fn put_frame<P: PixelSource>(
     alloc: Global,
     scene: &Scene,
     pixels: &mut P,

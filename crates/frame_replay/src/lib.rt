@@ -8,7 +8,7 @@ mod frame;
 mod laws;
 mod load;
 mod painted;
-mod pixels;
+mod pixel_source;
 mod program;
 mod replay;
 mod status;

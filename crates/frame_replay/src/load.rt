@@ -11,7 +11,7 @@ ghost use Rattle.frame_replay.specs.Load.{HasRoom, Summarises, answers_to, count
 
 use crate::answer::apply;
 use crate::drawing::Drawing;
-use crate::pixels::PutPixels;
+use crate::pixel_source::PixelSource;
 use file_generator::{Generator, MAX_TRANSACTIONS};
 use image_store::Gens;
 use scene_state::{ApplyError, Scene, know_scene};

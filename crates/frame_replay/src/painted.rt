@@ -5,7 +5,7 @@ ghost use Rattle.std.specs.List.{flat_map};
 ghost use Rattle.blend_rules.specs.Colour.{colour_bytes};
 ghost use Rattle.frame_replay.specs.Frame.{row_pixels, view_pixels};
 
-use crate::pixels::PutPixels;
+use crate::pixel_source::PixelSource;
 use field_forms::put_colour;
 use scene_state::{Scene, paint_at};
 use std::alloc::{AllocError, Global};
@@ -37,7 +37,7 @@ fn put_painted(out: &mut Vec<u8>, scene: &Scene) -> Result<(), AllocError>
     Ok(())
 }
 
-impl PutPixels for Painted {
+impl PixelSource for Painted {
     fn put_pixels(
         &mut self,
         _alloc: Global,

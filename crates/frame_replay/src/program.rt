@@ -12,7 +12,7 @@ ghost use Rattle.frame_replay.specs.Load.{Summarises};
 use crate::drawing::Drawing;
 use crate::load::load;
 use crate::painted::Painted;
-use crate::pixels::PutPixels;
+use crate::pixel_source::PixelSource;
 use crate::replay::Replay;
 use crate::status::answer_status;
 use crate::words::{Command, find_command};
@@ -25,7 +25,7 @@ const USAGE: u8 = 1;
 
 /// Answers a file of transactions by frames whose pixels are made in a given way, and gives the exit status: 0, or 2
 /// to 5.
-fn replay<P: PutPixels, S: Source, K: Sink>(
+fn replay<P: PixelSource, S: Source, K: Sink>(
     alloc: Global,
     pixels: P,
     source: &mut S,

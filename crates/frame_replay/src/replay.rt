@@ -5,7 +5,7 @@ ghost use Rattle.scene_state.specs.SceneModel.{SceneModel};
 ghost use Rattle.frame_replay.specs.Answer.{replaying, start_state};
 
 use crate::answer::answer;
-use crate::pixels::PutPixels;
+use crate::pixel_source::PixelSource;
 use image_store::Gens;
 use record_frame::{AnswerError, AnswerPayload};
 use scene_state::Scene;
@@ -13,13 +13,13 @@ use std::alloc::Global;
 
 /// A replay: what is kept between transactions, and how pixels are made.
 #[derive(Drop)]
-pub(crate) struct Replay<P: PutPixels> {
+pub(crate) struct Replay<P: PixelSource> {
     scene: Scene,
     gens: Gens,
     pixels: P,
 }
 
-impl<P: PutPixels> Replay<P> {
+impl<P: PixelSource> Replay<P> {
     /// At the start of an input.
     pub(crate) fn new(alloc: Global, pixels: P) -> Replay<P>
         ensures { (result.scene, result.gens) ≡ start_state }
@@ -32,7 +32,7 @@ impl<P: PutPixels> Replay<P> {
     }
 }
 
-impl<P: PutPixels> AnswerPayload for Replay<P> {
+impl<P: PixelSource> AnswerPayload for Replay<P> {
     ghost State = { SceneModel × ℕ };
 
     ghost state = { λ replay. (replay.scene, replay.gens) };

@@ -7,3 +7,5 @@ pub mod Taken
 pub mod Spans
 pub mod Covered
 pub mod Entries
+pub mod Groups
+pub mod Wide

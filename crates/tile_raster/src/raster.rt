@@ -36,6 +36,7 @@ fn draw_row(
 )
     requires drawing { IsDrawing drawing }
     requires below { IsBelow drawing.entries.now (length levels.old) }
+    requires room { length levels.old ≤ 65 }
     requires first { IsFirst first }
     requires count { count ≤ width row.old }
     requires wide { AreWide (width row.old) levels.old }
@@ -91,6 +92,19 @@ fn put_row(row: &Line, y: u16, out: &mut Planes)
     put_plane(row.plane(Plane::A), Plane::A, y, out);
 }
 
+/// Where the first pixel of a row of planes lies.
+fn first_of(corner: Point, y: u16) -> Point
+    requires { IsCorner corner }
+    ensures x { result.x ≡ corner.x }
+    ensures y { result.y ≡ corner.y +ℤ pos y }
+    ensures first { IsFirst result }
+{
+    Point {
+        x: corner.x,
+        y: corner.y + i32::from(y),
+    }
+}
+
 /// Draws entries into each row of planes, the first pixel of which lies at `corner`.
 fn draw_rows(
     drawing: Drawing,
@@ -102,6 +116,7 @@ fn draw_rows(
 )
     requires drawing { IsDrawing drawing }
     requires below { IsBelow drawing.entries.now (length levels.old) }
+    requires room { length levels.old ≤ 65 }
     requires corner { IsCorner corner }
     requires row { out.old.width ≤ width row.old }
     requires wide { AreWide (width row.old) levels.old }
@@ -117,10 +132,7 @@ fn draw_rows(
 {
     let (count, height) = (out.width(), out.height());
     for y in 0..height {
-        let first = Point {
-            x: corner.x,
-            y: corner.y + i32::from(y),
-        };
+        let first = first_of(corner, y);
         draw_row(drawing, first, count, row, levels, tools);
         put_row(row, y, out);
     }

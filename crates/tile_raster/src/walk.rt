@@ -14,7 +14,7 @@ use crate::level::{Level, LevelRows, Tools};
 use crate::line::Line;
 use crate::note::{Drawing, Note, Noted, note_at};
 use crate::opaque::take_opaque;
-use crate::span::Span;
+use crate::span::know_span;
 use crate::strip::{Strip, cut_strip};
 use blend_rules::Px;
 use primitives::Entry;
@@ -58,14 +58,7 @@ fn take_top(
                     number: last,
                     is_whole: note.is_whole,
                 };
-                take_opaque(
-                    noted,
-                    note.shown,
-                    strip,
-                    &mut rows.cover,
-                    &mut tools.mask,
-                    row,
-                );
+                take_opaque(noted, note.shown, strip, &mut rows.cover, &mut tools.mask, row);
             }
             last
         }
@@ -113,6 +106,7 @@ pub(crate) fn draw_level(
     requires drawing { IsDrawing drawing }
     requires level { IsLevel drawing.entries.now level }
     requires below { IsBelow drawing.entries.now (level.depth + length levels.old) }
+    requires room { level.depth + length levels.old ≤ 65 }
     requires strip { IsStrip strip (width row.old) }
     requires wide { AreWide (width row.old) levels.old }
     requires tools { IsFit (width row.old) tools.old }
@@ -152,6 +146,7 @@ fn draw_top(
     requires order { i < level.to }
     requires place { IsAt drawing.entries.now level.depth i }
     requires below { IsBelow drawing.entries.now (level.depth + 1 + length deeper.old) }
+    requires room { level.depth + 1 + length deeper.old ≤ 65 }
     requires strip { IsStrip strip (width row.old) }
     requires wide { IsWide (width row.old) rows.old }
     requires deeper_wide { AreWide (width row.old) deeper.old }
@@ -209,6 +204,7 @@ fn draw_group(
     requires note { IsNote drawing.store.now drawing.entries.now i note }
     requires end { IsGroupEnd drawing.entries.now level.depth i note.partner }
     requires below { IsBelow drawing.entries.now (level.depth + 1 + length deeper.old) }
+    requires room { level.depth + 1 + length deeper.old ≤ 65 }
     requires strip { IsStrip strip (width row.old) }
     requires wide { IsWide (width row.old) rows.old }
     requires deeper_wide { AreWide (width row.old) deeper.old }
@@ -221,35 +217,38 @@ fn draw_group(
     ensures deeper_wide { AreWide (width row.old) deeper.new }
     ensures tools { IsFit (width row.old) tools.new }
 {
-    let shown = cut_strip(strip, note.shown);
-    if shown.from == shown.to {
-        return;
-    }
-    if let Entry::Push {
+    row.know_pixels();
+    know_span(strip.span);
+    let Entry::Push {
         opacity,
         mode,
         clips,
     } = &drawing.entries[i]
-    {
-        let inside = Strip {
-            span: shown,
-            first: strip.first,
-        };
-        let members = Level {
-            depth: level.depth + 1,
-            from: i + 1,
-            to: note.partner,
-        };
-        draw_level(drawing, members, inside, &mut rows.inner, deeper, tools);
-        let clips = clips.as_slice();
-        fade_group(
-            *opacity,
-            clips,
-            note.is_whole,
-            inside,
-            &mut tools.mask,
-            &mut rows.inner,
-        );
-        lay_group(&rows.inner, *mode, i as u32, inside, &rows.cover, row);
+    else {
+        unreachable!();
+    };
+    let shown = cut_strip(strip, note.shown);
+    if shown.from == shown.to {
+        return;
     }
+    let inside = Strip {
+        span: shown,
+        first: strip.first,
+    };
+    let members = Level {
+        depth: level.depth + 1,
+        from: i + 1,
+        to: note.partner,
+    };
+    draw_level(drawing, members, inside, &mut rows.inner, deeper, tools);
+    let clips = clips.as_slice();
+    fade_group(
+        *opacity,
+        clips,
+        note.is_whole,
+        inside,
+        &mut tools.mask,
+        &mut rows.inner,
+    );
+    lay_group(&rows.inner, *mode, i as u32, inside, &rows.cover, row);
 }

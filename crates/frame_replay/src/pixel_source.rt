@@ -9,7 +9,7 @@ use scene_state::Scene;
 use std::alloc::{AllocError, Global};
 
 /// A way to make the pixels of scenes' views.
-pub(crate) trait PutPixels: Drop {
+pub(crate) trait PixelSource: Drop {
     /// Appends the pixels of the view, row by row from the top.
     fn put_pixels(
         &mut self,
