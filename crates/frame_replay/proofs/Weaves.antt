@@ -32,13 +32,13 @@ part_channel p planes y long =
     let w = planes.width in
     same_number_lists _ _ (long ∙ sym (ap length (map_map (channel p) (λ x. pixel_at planes x y) (range_with_len 0 w)) ∙ length-map-range_with_len (λ x. channel p (pixel_at planes x y)) 0 w))
     (λ k h.
-        let low : k < w = omega (arith, h, long) in
-        let at : index_of planes 0 y + k ≡ index_of planes k y = omega arith in
-        let e : 0 + k ≡ k = omega arith in
-        get_or-take w (drop (index_of planes 0 y) (plane_of p planes)) k 0 low ∙ get_or-drop (index_of planes 0 y) (plane_of p planes) k 0
-        ∙ ap (λ (i : ℕ). get_or (plane_of p planes) i 0) at
-        ∙ sym (channel_byte p planes k y)
-        ∙ sym (ap (λ (l : List ℕ). get_or l k 0) (map_map (channel p) (λ x. pixel_at planes x y) (range_with_len 0 w)) ∙ get_or-map-range_with_len (λ x. channel p (pixel_at planes x y)) 0 w k k 0 low e))
+    let low : k < w = omega (arith, h, long) in
+    let at : index_of planes 0 y + k ≡ index_of planes k y = omega arith in
+    let e : 0 + k ≡ k = omega arith in
+    get_or-take w (drop (index_of planes 0 y) (plane_of p planes)) k 0 low ∙ get_or-drop (index_of planes 0 y) (plane_of p planes) k 0
+    ∙ ap (λ (i : ℕ). get_or (plane_of p planes) i 0) at
+    ∙ sym (channel_byte p planes k y)
+    ∙ sym (ap (λ (l : List ℕ). get_or l k 0) (map_map (channel p) (λ x. pixel_at planes x y) (range_with_len 0 w)) ∙ get_or-map-range_with_len (λ x. channel p (pixel_at planes x y)) 0 w k k 0 low e))
 
 -- the four rows of planes weave the bytes of its pixels
 pub woven_row : (planes : PlanesModel) (y : ℕ) (b g r a : List ℕ) → b ≡ part_of B planes y 0 planes.width → g ≡ part_of G planes y 0 planes.width → r ≡ part_of R planes y 0 planes.width → a ≡ part_of A planes y 0 planes.width

@@ -58,7 +58,14 @@ fn take_top(
                     number: last,
                     is_whole: note.is_whole,
                 };
-                take_opaque(noted, note.shown, strip, &mut rows.cover, &mut tools.mask, row);
+                take_opaque(
+                    noted,
+                    note.shown,
+                    strip,
+                    &mut rows.cover,
+                    &mut tools.mask,
+                    row,
+                );
             }
             last
         }

@@ -71,7 +71,11 @@ fn rows_show_every_item_as_pixels_do(rt: HostRuntime) -> Result<(), Fail> {
         let frames = 13 * (5 + 36 * usize::from(width));
         assert!(rt; frames < replayed.out.len(), "{width} columns");
         assert_eq!(rt; (replayed.status, painted.status), (0, 0));
-        assert_eq!(rt; replayed.out.as_slice(), painted.out.as_slice(), "{width} columns");
+        assert_eq!(rt;
+            replayed.out.as_slice(),
+            painted.out.as_slice(),
+            "{width} columns"
+        );
     }
     Ok(())
 }
