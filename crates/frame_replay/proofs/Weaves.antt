@@ -2,7 +2,7 @@
 use Rattle.std.proofs.Common.{◌≡◌, ℕ, ◌+◌, ◌*◌, ◌-◌, ◌<◌, ◌≤◌, List, [], ◌∷◌, ◌++◌, map, length, take, drop, replicate, get_or, refl, sym, ap, ap₂, ◌∙◌, arith, append-nil}
 use Rattle.std.specs.List.{flat_map, range_with_len}
 use Rattle.std.proofs.lemmas.Grind.{same_number_lists}
-use Rattle.std.proofs.lemmas.List.{get_or-take, get_or-drop}
+use Rattle.std.proofs.lemmas.List.{get_or-take, get_or-drop, take_all, take_at, drop_at, drop_all, length-replicate}
 use Rattle.std.proofs.lemmas.List.FromFn.{length-map-range_with_len, get_or-map-range_with_len}
 use Rattle.blend_rules.specs.Colour.{colour_bytes}
 use Rattle.blend_rules.specs.declared.colour.Px.{Px}
@@ -49,3 +49,14 @@ woven_row planes y b g r a eb eg er ea lb lg lr la =
     ap₂ (λ (s t : List ℕ). interleaved s t r a) (is B b eb lb) (is G g eg lg)
     ∙ ap₂ (λ (s t : List ℕ). interleaved (map (channel B) (row_of planes y)) (map (channel G) (row_of planes y)) s t) (is R r er lr) (is A a ea la)
     ∙ woven_pixels (row_of planes y)
+
+-- what was woven into the zeros that were put behind bytes
+pub put_behind : (old filled woven : List ℕ) (start end : ℕ) → start ≡ length old → start ≤ end → filled ≡ take end old ++ replicate (end - length old) 0 → length woven ≡ end - start
+    → take start filled ++ (woven ++ drop (end - start) (drop start filled)) ≡ old ++ woven
+put_behind old filled woven start end at order is long =
+    let zeros = replicate (end - length old) 0 in
+    let same : filled ≡ old ++ zeros = is ∙ ap (λ (l : List ℕ). l ++ zeros) (take_all end old (omega (arith, at, order))) in
+    let front : take start filled ≡ old = ap (take start) same ∙ take_at old zeros start (sym at) in
+    let back : drop (end - start) (drop start filled) ≡ [] =
+    ap (λ (l : List ℕ). drop (end - start) (drop start l)) same ∙ ap (drop (end - start)) (drop_at old zeros start (sym at)) ∙ drop_all (end - start) zeros (omega (arith, length-replicate (end - length old) 0, at)) in
+    ap₂ (λ (l m : List ℕ). l ++ (woven ++ m)) front back ∙ ap (λ (l : List ℕ). old ++ l) (append-nil woven)
