@@ -2,8 +2,6 @@ pub mod Statuses
 pub mod Replays
 pub mod Marks
 pub mod Pixels
-pub mod Weaves
-pub mod Shown
 pub mod Refusals
 pub mod Counting
 pub mod Sizes
