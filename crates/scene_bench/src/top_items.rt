@@ -66,12 +66,17 @@ fn add_clipped(subject: &mut Subject, count: u16) -> Result<(), AllocError> {
 }
 
 /// Times 60,000 Solids, 9,984 in nested Iframes, and 60,000 that are clipped.
+fn time_scenes(rt: &HostRuntime, subject: &mut Subject) -> io::Result<()> {
+    add_solids(subject, 60_000)?;
+    time(rt, "60,000 solids", subject, 60_000)?;
+    add_nested(subject)?;
+    time(rt, "64 nested Iframes", subject, 9_984)?;
+    add_clipped(subject, 60_000)?;
+    time(rt, "solids under eight clips", subject, 60_000)
+}
+
+/// The same, from an empty scene on.
 pub fn time_top_items(rt: &HostRuntime) -> io::Result<()> {
     let mut subject = Subject::start(rt.alloc());
-    add_solids(&mut subject, 60_000)?;
-    time(rt, "60,000 solids", &subject, 60_000)?;
-    add_nested(&mut subject)?;
-    time(rt, "64 nested Iframes", &subject, 9_984)?;
-    add_clipped(&mut subject, 60_000)?;
-    time(rt, "solids under eight clips", &subject, 60_000)
+    time_scenes(rt, &mut subject)
 }
