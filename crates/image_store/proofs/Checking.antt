@@ -30,6 +30,9 @@ pixels_read bytes f i = elim (cases_lt i (length bytes / 4)) [
   | inr m ↦ subst IsPixel (sym (get_or_past (pixels bytes) i clear (omega (arith, length-pixels bytes)))) clear_is
 ]
 
+pub read_pixels : (bytes : List ℕ) → HasPixels (pixels bytes) → (k : ℕ) → k < length bytes / 4 → IsPixel (colour_from bytes (4 * k))
+read_pixels bytes p k h = subst IsPixel (listed_at (length bytes / 4) (λ j. colour_from bytes (4 * j)) k h) (p k)
+
 pub premultiplied_is : (p : Px) → is_premultiplied p ≡ true → IsPremultiplied p
 unfolding is_premultiplied
 premultiplied_is p e = record { blue = grind arith; green = grind arith; red = grind arith }

@@ -1,6 +1,6 @@
 -- A band of new planes.
-use Rattle.std.proofs.Common.{◌≡◌, ℕ, ◌+◌, ◌*◌, ◌/◌, ◌<◌, ◌^◌, zero, suc, List, [], ◌++◌, length, get_or, drop, replicate, ap, ◌∙◌, refl, arith}
-use Rattle.std.proofs.lemmas.List.{length-replicate, drop_all, append-nil}
+use Rattle.std.proofs.Common.{◌≡◌, ℕ, ◌+◌, ◌*◌, ◌/◌, ◌<◌, ◌^◌, zero, suc, List, [], ◌++◌, length, get_or, take, drop, replicate, ap, ◌∙◌, refl, arith}
+use Rattle.std.proofs.lemmas.List.{length-replicate, drop_all, append-nil, take_all}
 use Rattle.blend_rules.specs.declared.colour.Px.{Px}
 use Rattle.blend_rules.specs.Colour.{colour_from}
 use Rattle.blend_rules.specs.Pixels.{pixels, written}
@@ -33,12 +33,12 @@ module _ (bytes blank blue green red alpha : List ℕ) (is_blank : blank ≡ rep
   band_blank : IsBand blank blank blank blank (opaque_count blank)
   band_blank = record { green_fits = refl; red_fits = refl; alpha_fits = refl; blue_below = λ i. omega arith; green_below = λ i. omega arith; red_below = λ i. omega arith; byte = λ i. blank_byte i; counted = refl }
 
-  pub woven_new : woven blue green red alpha ≡ pixels bytes
-  woven_new =
+  pub woven_new : HasPixels (pixels bytes) → woven blue green red alpha ≡ pixels bytes
+  woven_new h =
       let l = long in let w = length-woven blank blank blank blank in let p = length-listed (length bytes / 4) (λ i. colour_from bytes (4 * i)) in
-      woven_written bytes 0 blank blank blank blank blue green red alpha sb sg sr sa (omega arith) ∙ written_whole (woven blank blank blank blank) (pixels bytes) (omega arith)
+      woven_written bytes 0 blank blank blank blank blue green red alpha sb sg sr sa (omega arith) h ∙ written_whole (woven blank blank blank blank) (pixels bytes) (omega arith)
 
-  pub band_new : (count : ℕ) → HasPixels (pixels bytes) → count ≡ opaque_count alpha → IsBand blue green red alpha count
+  pub band_new : (count : ℕ) → ((i : ℕ) → i < length bytes / 4 → (colour_from bytes (4 * i)).a < 2 ^ 8) → count ≡ opaque_count (take (length bytes / 4) (drop 0 alpha)) → IsBand blue green red alpha count
   band_new count p c =
       let b = band_written bytes 0 blank blank blank blank blue green red alpha sb sg sr sa (opaque_count blank) _ _ band_blank p refl refl in
-      record { green_fits = b.green_fits; red_fits = b.red_fits; alpha_fits = b.alpha_fits; blue_below = b.blue_below; green_below = b.green_below; red_below = b.red_below; byte = b.byte; counted = c }
+      record { green_fits = b.green_fits; red_fits = b.red_fits; alpha_fits = b.alpha_fits; blue_below = b.blue_below; green_below = b.green_below; red_below = b.red_below; byte = b.byte; counted = c ∙ ap opaque_count (take_all (length bytes / 4) alpha (let l = sa.long in let b = long in omega arith)) }

@@ -1,5 +1,5 @@
 -- A rectangle of colours, row by row.
-use Rattle.std.proofs.Common.{◌≡◌, ℕ, ◌+◌, ◌-◌, ◌*◌, ◌/◌, ◌%◌, ◌<◌, ◌≤◌, ◌⊎◌, inl, inr, Bool, true, false, ◌&&◌, ltb, leb, if◌then◌else◌, List, length, take, drop, get_or, subst, ap, ◌∙◌, sym, refl, arith}
+use Rattle.std.proofs.Common.{◌≡◌, ℕ, ◌+◌, ◌-◌, ◌*◌, ◌/◌, ◌%◌, ◌<◌, ◌≤◌, max, ◌↔◌, ◌⊎◌, inl, inr, Bool, true, false, ◌&&◌, ltb, leb, if◌then◌else◌, List, length, take, drop, get_or, subst, ap, ◌∙◌, sym, refl, arith}
 use Rattle.std.proofs.lemmas.Bool.{cases_lt, lt-ltb, le-ltb, le-leb, lt-leb}
 use Rattle.std.proofs.lemmas.Nat.{mul-le}
 use Rattle.std.proofs.lemmas.List.{length-take-le, length-drop, get_or-take, get_or-drop, drop-drop, get_or_past}
@@ -99,13 +99,14 @@ same_after old now after texels s e =
     e ∙ ap (λ t. let r : ImageModel = record now { texels = t } in r) (sym (ap (λ (q : ImageModel). q.texels) e))
     ∙ ap (λ (q : ImageModel). let r : ImageModel = record q { texels = after.texels } in r) s
 
-module _ (p : Patch) (old : ImageModel) (bytes : List ℕ) (rows : ℕ) (now : ImageModel) (rest : List ℕ) (d : IsPatchedTo p old bytes rows now rest)
-    (size : length bytes ≡ p.h * (4 * p.w)) (right : p.x + p.w ≤ old.w) (below : p.y + p.h ≤ old.h) (more : rows < p.h) where
+-- ---- the next row's bytes
+module _ (p : Patch) (bytes : List ℕ) (rows : ℕ) (rest : List ℕ) (left : rest ≡ drop (rows * (4 * p.w)) bytes)
+    (size : length bytes ≡ p.h * (4 * p.w)) (more : rows < p.h) where
   taken : rows * (4 * p.w) + 4 * p.w ≤ length bytes
   taken = let m = mul-le (rows + 1) (4 * p.w) p.h (4 * p.w) (omega arith) (omega arith) in omega arith
 
   rest_long : length rest ≡ length bytes - rows * (4 * p.w)
-  rest_long = ap length d.left ∙ length-drop (rows * (4 * p.w)) bytes
+  rest_long = ap length left ∙ length-drop (rows * (4 * p.w)) bytes
 
   pub line_room : 4 * p.w ≤ length rest
   line_room = let t = taken in let l = rest_long in omega arith
@@ -120,7 +121,7 @@ module _ (p : Patch) (old : ImageModel) (bytes : List ℕ) (rows : ℕ) (now : I
   bytes_texels = length-pixels bytes ∙ (let e : p.h * (4 * p.w) ≡ 4 * (p.h * p.w) = omega arith in omega arith)
 
   byte_of_line : (i : ℕ) → i < 4 * p.w → get_or (take (4 * p.w) rest) i 0 ≡ get_or bytes (rows * (4 * p.w) + i) 0
-  byte_of_line i h = get_or-take (4 * p.w) rest i 0 h ∙ ap (λ l. get_or l i 0) d.left ∙ get_or-drop (rows * (4 * p.w)) bytes i 0
+  byte_of_line i h = get_or-take (4 * p.w) rest i 0 h ∙ ap (λ l. get_or l i 0) left ∙ get_or-drop (rows * (4 * p.w)) bytes i 0
 
   byte_at : (i j : ℕ) → i < 4 * p.w → rows * (4 * p.w) + i ≡ j → get_or (take (4 * p.w) rest) i 0 ≡ get_or bytes j 0
   byte_at i j h e = byte_of_line i h ∙ ap (λ k. get_or bytes k 0) e
@@ -141,11 +142,32 @@ module _ (p : Patch) (old : ImageModel) (bytes : List ℕ) (rows : ℕ) (now : I
     | inr h ↦ subst IsPixel (sym (get_or_past (pixels (take (4 * p.w) rest)) i clear (omega (arith, line_texels)))) (none_sound i)
   ]
 
+  -- colours are pixels up to the end of a row, where they are up to its begin and in it
+  pub sound_more : ((k : ℕ) → k < rows * p.w → IsPixel (nth_pixel (pixels bytes) k)) → HasPixels (pixels (take (4 * p.w) rest)) → (k : ℕ) → k < (rows + 1) * p.w → IsPixel (nth_pixel (pixels bytes) k)
+  sound_more before line k h = elim (cases_lt k (rows * p.w)) [
+    | inl l ↦ before k l
+    | inr l ↦ let e : rows * p.w + (k - rows * p.w) ≡ k = omega arith in
+        subst IsPixel (ap (λ j. nth_pixel (pixels bytes) j) e) (subst IsPixel (line_texel (k - rows * p.w) (let m = row_more rows p.w in omega arith)) (line (k - rows * p.w)))
+  ]
+
+-- all are pixels, where those of all rows are
+pub sound_all : (p : Patch) (bytes : List ℕ) → length bytes ≡ p.h * (4 * p.w) → ((k : ℕ) → k < p.h * p.w → IsPixel (nth_pixel (pixels bytes) k)) → HasPixels (pixels bytes)
+sound_all p bytes size f i = elim (cases_lt i (p.h * p.w)) [
+  | inl l ↦ f i l
+  | inr l ↦ subst IsPixel (sym (get_or_past (pixels bytes) i clear (let n = length-pixels bytes in let e : p.h * (4 * p.w) ≡ 4 * (p.h * p.w) = omega arith in omega arith))) (none_sound i)
+]
+
+-- ---- a row more
+module _ (p : Patch) (old : ImageModel) (bytes : List ℕ) (rows : ℕ) (now : ImageModel) (rest : List ℕ) (d : IsPatchedTo p old bytes rows now rest)
+    (size : length bytes ≡ p.h * (4 * p.w)) (right : p.x + p.w ≤ old.w) (below : p.y + p.h ≤ old.h) (more : rows < p.h) where
+  line_count : length (pixels (take (4 * p.w) rest)) ≡ p.w
+  line_count = line_texels p bytes rows rest d.left size more
+
   abbrev at : ℕ
   at = (p.y + rows) * old.w + p.x
 
   fits : at + length (pixels (take (4 * p.w) rest)) ≤ length now.texels
-  fits = let t = line_texels in let w = d.whole in let m = mul-le (p.y + rows + 1) old.w old.h old.w (omega arith) (omega arith) in let n = row_more (p.y + rows) old.w in omega arith
+  fits = let t = line_count in let w = d.whole in let m = mul-le (p.y + rows + 1) old.w old.h old.w (omega arith) (omega arith) in let n = row_more (p.y + rows) old.w in omega arith
 
   abbrev next : List Px
   next = written now.texels at (pixels (take (4 * p.w) rest))
@@ -153,17 +175,17 @@ module _ (p : Patch) (old : ImageModel) (bytes : List ℕ) (rows : ℕ) (now : I
   -- in the row and the columns of the rectangle
   here : (x : ℕ) → p.x ≤ x → x < p.x + p.w → nth_pixel next ((p.y + rows) * old.w + x) ≡ patched_texel (upto p (rows + 1)) (pixels bytes) old x (p.y + rows)
   here x l r =
-      let t = line_texels in
+      let t = line_count in
       ap (λ n. nth_pixel next n) (omega arith)
       ∙ written_inside now.texels at (pixels (take (4 * p.w) rest)) fits (x - p.x) (omega arith)
-      ∙ line_texel (x - p.x) (omega arith)
+      ∙ line_texel p bytes rows rest d.left size more (x - p.x) (omega arith)
       ∙ ap (λ n. nth_pixel (pixels bytes) n) (let e : p.y + rows - p.y ≡ rows = omega arith in let f : (p.y + rows - p.y) * p.w ≡ rows * p.w = ap (λ n. n * p.w) e in omega arith)
       ∙ sym (texel_inside (upto p (rows + 1)) (pixels bytes) old x (p.y + rows) l r (omega arith) (omega arith))
 
   -- and elsewhere
   kept : (x y : ℕ) → x < old.w → y < old.h → (y < p.y + rows) ⊎ (p.y + rows < y) ⊎ ((y ≡ p.y + rows) × (x < p.x)) ⊎ ((y ≡ p.y + rows) × (p.x + p.w ≤ x)) → nth_pixel next (y * old.w + x) ≡ patched_texel (upto p rows) (pixels bytes) old x y
   kept x y a b far =
-      let t = line_texels in
+      let t = line_count in
       elim (apart old.w p.x p.w (p.y + rows) x y right a far) [
         | inl l ↦ written_below now.texels at (pixels (take (4 * p.w) rest)) fits (y * old.w + x) l ∙ d.done x y a b
         | inr m ↦ written_above now.texels at (pixels (take (4 * p.w) rest)) fits (y * old.w + x) (omega arith) ∙ d.done x y a b
@@ -207,3 +229,45 @@ module _ (p : Patch) (old : ImageModel) (bytes : List ℕ) (rows : ℕ) (now : I
         done = λ x y a b. ap (λ l. nth_pixel l (y * old.w + x)) texels ∙ each x y a b;
         left = ap (λ l. drop (4 * p.w) l) d.left ∙ drop-drop (4 * p.w) (rows * (4 * p.w)) bytes ∙ ap (λ n. drop n bytes) (let k = row_more rows (4 * p.w) in omega arith);
       }
+
+-- the first rows are written and tested: where all colours are pixels, the image has them
+pub record AreRowsIn (p : Patch) (old : ImageModel) (bytes : List ℕ) (rows : ℕ) (now : ImageModel) (rest : List ℕ) (over : ℕ) : Type 0 where
+  pub wide : now.w ≡ old.w
+  pub high : now.h ≡ old.h
+  pub left : rest ≡ drop (rows * (4 * p.w)) bytes
+  pub patched : HasPixels (pixels bytes) → IsPatchedTo p old bytes rows now rest
+  pub exact : HasPixels (pixels bytes) → over ≡ 0
+  pub sound : over ≡ 0 → (k : ℕ) → k < rows * p.w → IsPixel (nth_pixel (pixels bytes) k)
+
+pub no_rows_in : (p : Patch) (old : ImageModel) (bytes : List ℕ) → length old.texels ≡ old.h * old.w → AreRowsIn p old bytes 0 old bytes 0
+no_rows_in p old bytes l = record {
+  wide = refl;
+  high = refl;
+  left = ap (λ n. drop n bytes) (nought (4 * p.w));
+  patched = λ h. patched_none p old bytes l;
+  exact = λ h i. 0;
+  sound = λ e k h. absurd (omega (arith, nought p.w));
+}
+
+module _ (p : Patch) (old : ImageModel) (bytes : List ℕ) (rows : ℕ) (now : ImageModel) (rest : List ℕ) (over : ℕ) (d : AreRowsIn p old bytes rows now rest over)
+    (size : length bytes ≡ p.h * (4 * p.w)) (right : p.x + p.w ≤ old.w) (below : p.y + p.h ≤ old.h) (more : rows < p.h) where
+  abbrev line : List Px
+  line = pixels (take (4 * p.w) rest)
+
+  pub row_in : (after : ImageModel) (found both : ℕ) → after.w ≡ now.w → after.h ≡ now.h → (HasPixels line → after ≡ with_row p.x (p.y + rows) line now)
+      → (found ≡ 0 ↔ HasPixels line) → (both ≡ 0 → (over ≡ 0) × (found ≡ 0)) → (over ≡ 0 → found ≡ 0 → both ≡ 0)
+      → AreRowsIn p old bytes (rows + 1) after (drop (4 * p.w) rest) both
+  row_in after found both w h e f split join = record {
+    wide = w ∙ d.wide;
+    high = h ∙ d.high;
+    left = ap (λ l. drop (4 * p.w) l) d.left ∙ drop-drop (4 * p.w) (rows * (4 * p.w)) bytes ∙ ap (λ n. drop n bytes) (let k = row_more rows (4 * p.w) in omega arith);
+    patched = λ q. patched_more p old bytes rows now rest (d.patched q) size right below more after (e (line_sound p bytes rows rest d.left size more q));
+    exact = λ q. join (d.exact q) (f.1 (line_sound p bytes rows rest d.left size more q));
+    sound = λ z. sound_more p bytes rows rest d.left size more (d.sound (split z).0) (f.0 (split z).1);
+  }
+
+pub max_split : (a b : ℕ) → max a b ≡ 0 → (a ≡ 0) × (b ≡ 0)
+max_split a b e = (omega arith, omega arith)
+
+pub max_join : (a b : ℕ) → a ≡ 0 → b ≡ 0 → max a b ≡ 0
+max_join a b e f = omega arith

@@ -4,12 +4,11 @@ use Rattle.std.proofs.lemmas.List.{length-append, length-drop, length-take-le, g
 use borrow.Rule.Slice.PartMut.{put_mid}
 use Rattle.std.proofs.lemmas.Slice.{take-put_mid_below, drop-put_mid}
 use Rattle.blend_rules.specs.Colour.{colour_from}
-use Rattle.blend_rules.specs.Planes.{channel}
-use Rattle.image_store.specs.Bands.{IsSplit}
+use Rattle.image_store.specs.Bands.{cut, IsSplit}
 use Rattle.blend_rules.specs.declared.plane.Plane.{Plane}
 
 pub split_part : (plane : Plane) (bytes : List ℕ) (at : ℕ) (old part : List ℕ) → at + length bytes / 4 ≤ length old → length part ≡ length bytes / 4
-    → ((i : ℕ) → i < length bytes / 4 → get_or part i 0 ≡ channel plane (colour_from bytes (4 * i)))
+    → ((i : ℕ) → i < length bytes / 4 → get_or part i 0 ≡ cut plane (colour_from bytes (4 * i)))
     → IsSplit plane bytes at old (put_mid at (at + length bytes / 4 - at) old part)
 split_part plane bytes at old part room long same =
     let n = length bytes / 4 in

@@ -31,11 +31,15 @@ pub record IsBand (blue green red alpha : List ℕ) (count : ℕ) : Type 0 where
   pub byte : (i : ℕ) → slice_index alpha i < 2 ^ 8
   pub counted : count ≡ opaque_count alpha
 
--- a plane with the bytes that interleaved colours have in it written from an index on
+-- a colour's byte in a plane, or its alpha where that is less
+abbrev pub cut : Plane → Px → ℕ
+cut plane p = min (channel plane p) p.a
+
+-- a plane with the bytes that interleaved colours have in it, cut to their alphas, written from an index on
 pub record IsSplit (plane : Plane) (bytes : List ℕ) (at : ℕ) (old new : List ℕ) : Type 0 where
   pub long : length new ≡ length old
   pub below : take at new ≡ take at old
-  pub inside : (i : ℕ) → i < length bytes / 4 → slice_index new (at + i) ≡ channel plane (colour_from bytes (4 * i))
+  pub inside : (i : ℕ) → i < length bytes / 4 → slice_index new (at + i) ≡ cut plane (colour_from bytes (4 * i))
   pub above : drop (at + length bytes / 4) new ≡ drop (at + length bytes / 4) old
 
 -- each colour is a pixel; beyond the end all are clear

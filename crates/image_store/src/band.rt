@@ -53,11 +53,11 @@ impl Band {
         let mut green = zeros(alloc, size)?;
         let mut red = zeros(alloc, size)?;
         let mut alpha = zeros(alloc, size)?;
-        let over = split_planes(bytes, 0, &mut blue, &mut green, &mut red, &mut alpha);
-        if let Some(i) = first_bad_where(over, bytes, number) {
+        let tested = split_planes(bytes, 0, &mut blue, &mut green, &mut red, &mut alpha);
+        if let Some(i) = first_bad_where(tested.over, bytes, number) {
             return Err(StoreError::BadPixels(i as u32));
         }
-        let count = count_opaque(&alpha);
+        let count = tested.opaque;
         Ok(Band {
             blue,
             green,
@@ -104,19 +104,22 @@ impl Band {
         self.count == self.alpha.len()
     }
 
-    /// Writes the colours that interleaved bytes spell from an index on.
+    /// Writes the colours that interleaved bytes spell from an index on, and tests them in the same pass. Gives 0
+    /// exactly where all are premultiplied; else each is written with no byte above its alpha.
 
     #[tactic(auto, using(crate::proofs::Weaving::weaving))]
-    pub(crate) fn write(&mut self, at: usize, bytes: &[u8])
+    pub(crate) fn write(&mut self, at: usize, bytes: &[u8]) -> u8
         requires whole { length bytes.now ≡ 4 * (length bytes.now / 4) }
         requires room { at + length bytes.now / 4 ≤ length self.old }
-        requires pixels { HasPixels (pixels bytes.now) }
-        ensures { self.new ≡ written self.old at (pixels bytes.now) }
+        ensures written { HasPixels (pixels bytes.now) → self.new ≡ written self.old at (pixels bytes.now) }
+        ensures len { length self.new ≡ length self.old }
+        ensures pixels { HasPixels self.new }
+        ensures over { result ≡ 0 ↔ HasPixels (pixels bytes.now) }
     {
         let old = self.count;
         let end = at + bytes.len() / 4;
         let gone = count_opaque(&self.alpha[at..end]);
-        let _over = split_planes(
+        let tested = split_planes(
             bytes,
             at,
             &mut self.blue,
@@ -124,8 +127,8 @@ impl Band {
             &mut self.red,
             &mut self.alpha,
         );
-        let come = count_opaque(&self.alpha[at..end]);
-        self.count = old - gone + come;
+        self.count = old - gone + tested.opaque;
+        tested.over
     }
 }
 

@@ -10,7 +10,7 @@ ghost use Rattle.image_store.specs.Changes.{image_of, updated_image, first_bad};
 ghost use Rattle.image_store.specs.Outcome.{Makes, NamesTexelBelow};
 
 use crate::band::Band;
-use crate::check::first_bad_texel;
+use crate::check::first_bad_where;
 use crate::making::bands_of;
 use crate::{Patch, StoreError};
 use blend_rules::{Plane, Px};
@@ -95,46 +95,32 @@ impl ImageData {
         ensures within { IfErr result (λ e. NamesTexelBelow (patch.h * patch.w) e) }
     {
         let _ = self.w();
-        if let Some(i) = first_bad_texel(bytes, 0) {
-            return Err(StoreError::BadPixels(i as u32));
-        }
-        Ok(self.repainted(alloc, generation, patch, bytes)?)
-    }
-
-    fn repainted(
-        &self,
-        alloc: Global,
-        generation: u64,
-        patch: Patch,
-        bytes: &[u8],
-    ) -> Result<ImageData, AllocError>
-        requires right { patch.x + patch.w ≤ self.now.w }
-        requires below { patch.y + patch.h ≤ self.now.h }
-        requires texels { length bytes.now ≡ patch.h * (4 * patch.w) }
-        requires pixels { HasPixels (pixels bytes.now) }
-        ensures { IfOk result (λ r. r ≡ record (patched patch (pixels bytes.now) self.now) { generation = generation }) }
-    {
         let mut next = self.share(alloc, generation)?;
-        next.write_rows(patch, bytes)?;
-        Ok(next)
+        let over = next.write_rows(patch, bytes)?;
+        match first_bad_where(over, bytes, 0) {
+            Some(i) => Err(StoreError::BadPixels(i as u32)),
+            None => Ok(next),
+        }
     }
 
-    fn write_rows(&mut self, patch: Patch, bytes: &[u8]) -> Result<(), AllocError>
+    /// A rectangle's texels, tested as they are written. Gives 0 exactly where all are premultiplied.
+    fn write_rows(&mut self, patch: Patch, bytes: &[u8]) -> Result<u8, AllocError>
         requires right { patch.x + patch.w ≤ self.old.w }
         requires below { patch.y + patch.h ≤ self.old.h }
         requires texels { length bytes.now ≡ patch.h * (4 * patch.w) }
-        requires pixels { HasPixels (pixels bytes.now) }
-        ensures { OnOk result (self.new ≡ patched patch (pixels bytes.now) self.old) }
+        ensures patched { OnOk result (HasPixels (pixels bytes.now) → self.new ≡ patched patch (pixels bytes.now) self.old) }
+        ensures over { IfOk result (λ over. over ≡ 0 ↔ HasPixels (pixels bytes.now)) }
     {
         let _ = self.w();
         let size = 4 * usize::from(patch.w);
         let mut rest = bytes;
+        let mut over = 0u8;
         for row in 0..patch.h {
             let (line, below) = rest.split_at(size);
-            self.write_row(patch.x, patch.y + row, line)?;
+            over = over.max(self.write_row(patch.x, patch.y + row, line)?);
             rest = below;
         }
-        Ok(())
+        Ok(over)
     }
 
     pub(crate) fn w(&self) -> u16
@@ -194,13 +180,15 @@ impl ImageData {
         &self.bands[usize::from(y / ROWS)]
     }
 
-    /// Colours into a row from a column on. A band that others hold too is copied first.
-    fn write_row(&mut self, x: u16, y: u16, bytes: &[u8]) -> Result<(), AllocError>
+    /// Colours into a row from a column on, tested as they are written. A band that others hold too is copied first.
+    fn write_row(&mut self, x: u16, y: u16, bytes: &[u8]) -> Result<u8, AllocError>
         requires whole { length bytes.now ≡ 4 * (length bytes.now / 4) }
         requires row { y < self.old.h }
         requires room { x + length bytes.now / 4 ≤ self.old.w }
-        requires pixels { HasPixels (pixels bytes.now) }
-        ensures { OnOk result (self.new ≡ with_row x y (pixels bytes.now) self.old) }
+        ensures row { OnOk result (HasPixels (pixels bytes.now) → self.new ≡ with_row x y (pixels bytes.now) self.old) }
+        ensures wide { self.new.w ≡ self.old.w }
+        ensures high { self.new.h ≡ self.old.h }
+        ensures over { IfOk result (λ over. over ≡ 0 ↔ HasPixels (pixels bytes.now)) }
     {
         let at = usize::from(y % ROWS) * usize::from(self.w) + usize::from(x);
         let band = &mut self.bands[usize::from(y / ROWS)];
@@ -209,21 +197,18 @@ impl ImageData {
 }
 
 /// Other colours into a band, which is copied first if it has other owners.
-
-#[tactic(auto, using(crate::proofs::Lists::lengths, crate::proofs::Checking::pixels_written))]
-fn write_shared(band: &mut Rc<Band>, at: usize, bytes: &[u8]) -> Result<(), AllocError>
+fn write_shared(band: &mut Rc<Band>, at: usize, bytes: &[u8]) -> Result<u8, AllocError>
     requires whole { length bytes.now ≡ 4 * (length bytes.now / 4) }
     requires room { at + length bytes.now / 4 ≤ length band.old.value }
-    requires pixels { HasPixels (pixels bytes.now) }
     requires old { HasPixels band.old.value }
-    ensures ok { OnOk result (band.new.value ≡ written band.old.value at (pixels bytes.now)) }
+    ensures ok { OnOk result (HasPixels (pixels bytes.now) → band.new.value ≡ written band.old.value at (pixels bytes.now)) }
     ensures err { OnErr result (band.new.value ≡ band.old.value) }
     ensures len { length band.new.value ≡ length band.old.value }
     ensures new { HasPixels band.new.value }
+    ensures over { IfOk result (λ over. over ≡ 0 ↔ HasPixels (pixels bytes.now)) }
 {
     let own = Rc::make_mut(band)?;
-    own.write(at, bytes);
-    Ok(())
+    Ok(own.write(at, bytes))
 }
 
 /// More owners of bands.

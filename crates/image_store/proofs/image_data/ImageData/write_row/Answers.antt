@@ -35,13 +35,19 @@ invariant_of-self c =
     let row : c.args.y < i.h = rw (← c.self.view_is) at c.requires.row in
     shared_set i.w i.h c.args.y c.from-4.result i.bands.items c.self.invariant row c.from-4.ensures c.index_mut-band.result.now c.index_mut-band.ensures.value c.write_shared.new.band c.write_shared.ensures.len c.write_shared.ensures.new
 
-pub returns : goal.returns
-returns c =
+pub returns-clause-row : goal.returns-clause-row
+returns-clause-row c =
     let i = c.self.inside in
     let row : c.args.y < i.h = rw (← c.self.view_is) at c.requires.row in
     let fits : c.args.x + length c.args.bytes.now / 4 ≤ i.w = rw (← c.self.view_is) at c.requires.room in
     rw (← c.self.view_is) (on_ok c.write_shared.result
-    (λ e. ap (λ t. record { w = i.w; h = i.h; generation = i.generation; texels = t })
+    (λ e p. ap (λ t. record { w = i.w; h = i.h; generation = i.generation; texels = t })
     (shared_joined i.w i.h c.args.y c.from-4.result i.bands.items c.self.invariant row c.from-4.ensures c.index_mut-band.result.now c.index_mut-band.ensures.value c.write_shared.new.band c.args.x (pixels c.args.bytes.now)
-    (omega (arith, length-pixels c.args.bytes.now, fits)) (rw (← c.from.ensures, ← c.from-2.ensures, ← c.from-3.ensures) e)))
+    (omega (arith, length-pixels c.args.bytes.now, fits)) (rw (← c.from.ensures, ← c.from-2.ensures, ← c.from-3.ensures) (e p))))
     c.write_shared.ensures.ok)
+
+pub returns-clause-wide : goal.returns-clause-wide
+returns-clause-wide c = rw (← c.self.view_is) (λ i. c.self.inside.w)
+
+pub returns-clause-high : goal.returns-clause-high
+returns-clause-high c = rw (← c.self.view_is) (λ i. c.self.inside.h)
