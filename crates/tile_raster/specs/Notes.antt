@@ -52,7 +52,7 @@ AreNotes store es notes = (i : ℕ) (d : Note) → i < length notes → i < leng
 
 -- entries that can be drawn with what is stored, and notes on the first of them
 pub record IsDrawing (d : Drawing) : Type 0 where
-  pub few : length d.entries.now < 2 ^ 32 - 1
+  pub few : length d.entries.now < 2 ^ 32
   pub balanced : IsAt d.entries.now 0 0
   pub entries : All IsEntry d.entries.now
   pub store : IsStore d.store.now

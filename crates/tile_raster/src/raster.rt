@@ -138,7 +138,9 @@ fn draw_rows(
     }
 }
 
-/// Draws entries into planes whose first pixel lies at `corner`, with what is stored now. It takes no memory.
+/// Draws entries into planes whose first pixel lies at `corner`, with what is stored now. It takes no memory. The entries
+/// are balanced in pushes and pops, nest at most 64 groups and are fewer than 2^32; the corner's coordinates are from
+/// -2^28 to 2^28 pixels; the scratch is at least as wide as the planes.
 pub fn draw(
     entries: &[Entry],
     store: &Store,
@@ -146,7 +148,7 @@ pub fn draw(
     out: &mut Planes,
     scratch: &mut Scratch,
 )
-    requires few { length entries.now < 2 ^ 32 - 1 }
+    requires few { length entries.now < 2 ^ 32 }
     requires balanced { IsTrue (balanced 0 entries.now) }
     requires shallow { IsTrue (is_shallow 64 entries.now) }
     requires corner { IsCorner corner }
