@@ -1,7 +1,7 @@
 -- What a primitive's clips leave of its colours.
-use Rattle.std.proofs.Common.{◌≡◌, ℕ, ℤ, true, false, refl, sym, ap, ◌∙◌}
+use Rattle.std.proofs.Common.{◌≡◌, ℕ, ℤ, true, false, sym, ap, ◌∙◌}
 use Rattle.wr_geom.specs.Bounds.{holds}
-use Rattle.blend_rules.specs.Colour.{IsPixel, clear, scaled, blended}
+use Rattle.blend_rules.specs.Colour.{IsPixel, scaled, blended}
 use Rattle.blend_rules.specs.declared.colour.Px.{Px}
 use Rattle.blend_rules.specs.declared.mode.Mode.TheVariants.{Normal}
 use Rattle.blend_rules.proofs.Blends.{scaled_by_full, clear_source_leaves}

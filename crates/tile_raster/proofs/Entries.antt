@@ -1,5 +1,5 @@
 -- Entries of a list, and notes on them.
-use Rattle.std.proofs.Common.{◌≡◌, ℕ, suc, ◌+◌, ◌^◌, ◌<◌, ◌≤◌, List, All, length, get_or, inl, inr, sym, subst, ◌∙◌, arith}
+use Rattle.std.proofs.Common.{◌≡◌, ℕ, ◌<◌, ◌≤◌, List, All, length, get_or, inl, inr, sym, subst, ◌∙◌, arith}
 use Rattle.std.proofs.lemmas.Bool.{cases_lt}
 use Rattle.std.proofs.lemmas.List.{get_or_default}
 use Rattle.std.proofs.lemmas.List.Elements.{All-get_or}
@@ -8,7 +8,7 @@ use Rattle.primitives.specs.Facts.{IsEntry}
 use Rattle.primitives.specs.declared.entry.Entry.{Entry}
 use Rattle.primitives.specs.declared.entry.Entry.TheVariants as entry
 use Rattle.tile_raster.specs.declared.note.Note.{Note}
-use Rattle.tile_raster.specs.Levels.{IsAt, StaysWithin}
+use Rattle.tile_raster.specs.Levels.{IsAt}
 use Rattle.tile_raster.specs.Notes.{IsGroupStart, IsNote, IsNoteOf}
 
 -- an entry that was read

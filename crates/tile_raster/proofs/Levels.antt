@@ -3,7 +3,6 @@ use Rattle.std.proofs.Common.{◌≡◌, ℕ, zero, suc, ◌+◌, ◌-◌, ◌<�
 use Rattle.std.proofs.Math.Seq.{drop-cons}
 use Rattle.std.proofs.lemmas.Bool.{cases_lt}
 use Rattle.std.proofs.lemmas.List.{drop-drop}
-use Rattle.std.proofs.lemmas.List.Elements.{All-get_or}
 use Rattle.blend_rules.specs.declared.mode.Mode.{Mode}
 use Rattle.clip_masks.specs.declared.clip.Clip.{Clip}
 use Rattle.primitives.specs.PrimitiveModel.{PrimitiveModel}

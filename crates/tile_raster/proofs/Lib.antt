@@ -9,3 +9,4 @@ pub mod Covered
 pub mod Entries
 pub mod Groups
 pub mod Wide
+pub mod Windows

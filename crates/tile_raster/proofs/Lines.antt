@@ -1,5 +1,5 @@
 -- Rows painted plane by plane.
-use Rattle.std.proofs.Common.{◌≡◌, ℕ, ◌<◌, ◌≤◌, ◌+◌, ◌-◌, ◌^◌, inl, inr, sym, ap, subst, ◌∙◌, arith, refl, slice_index}
+use Rattle.std.proofs.Common.{◌≡◌, ℕ, inl, inr, sym, subst, ◌∙◌, refl}
 use Rattle.std.proofs.lemmas.Bool.{cases_lt}
 use Rattle.blend_rules.specs.Colour.{IsPixel, product, scaled, blended, blended_channel, source_over}
 use Rattle.blend_rules.specs.declared.colour.Px.{Px}

@@ -9,7 +9,7 @@ use Rattle.span_kernels.specs.Bytes.{over_byte}
 use Rattle.span_kernels.specs.PlanesModel.{overwritten}
 use Rattle.span_kernels.proofs.Parts.{length-overwritten, overwritten_inside, overwritten_else}
 use Rattle.tile_raster.specs.declared.span.Span.{Span}
-use Rattle.tile_raster.specs.Rows.{IsSpan, IsIn, IsPlanePainted}
+use Rattle.tile_raster.specs.Rows.{IsSpan, IsPlanePainted}
 
 -- the bytes of a part
 pub part_at : (xs part : List ℕ) (at n j : ℕ) → part ≡ take n (drop at xs) → j < n → slice_index part j ≡ slice_index xs (at + j)

@@ -1,13 +1,13 @@
 -- Strips in which an opaque primitive is taken, one after another.
-use Rattle.std.proofs.Common.{◌≡◌, ℕ, ◌<◌, ◌≤◌, ◌⊎◌, inl, inr, Option, Some, None, true, refl, sym, ◌∙◌, arith, true≢false}
+use Rattle.std.proofs.Common.{◌≡◌, ℕ, ◌≤◌, inl, inr, Option, Some, None, true, refl, sym, ◌∙◌, arith, true≢false}
 use Rattle.std.proofs.lemmas.Bool.{cases_lt}
-use Rattle.batching.specs.Depths.{Depths, depth_at, is_open}
+use Rattle.batching.specs.Depths.{Depths, is_open}
 use Rattle.wr_geom.specs.declared.point.Point.{Point}
 use Rattle.tile_raster.specs.declared.span.Span.{Span}
 use Rattle.tile_raster.specs.declared.strip.Strip.{Strip}
 use Rattle.tile_raster.specs.declared.note.Noted.{Noted}
-use Rattle.tile_raster.specs.Rows.{LineModel, IsIn}
-use Rattle.tile_raster.specs.Rasters.{IsLeft, IsTaken, AreTaken}
+use Rattle.tile_raster.specs.Rows.{LineModel}
+use Rattle.tile_raster.specs.Rasters.{IsLeft, AreTaken}
 
 pub none_open : (o : Option ℕ) → is_open o ≡ true → o ≡ None
 none_open None e = refl

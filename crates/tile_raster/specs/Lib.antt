@@ -4,3 +4,4 @@ pub mod Rows
 pub mod Spans
 pub mod Notes
 pub mod Rasters
+pub mod Windows

@@ -1,5 +1,5 @@
 -- What drawing asks of an entry in each row, found once.
-use Rattle.std.specs.Prelude.{◌≡◌, ℕ, suc, ◌+◌, ◌-◌, ◌^◌, ◌<◌, ◌≤◌, ℤ, pos, neg_ℤ, IsTrue, List, All, length, get_or}
+use Rattle.std.specs.Prelude.{◌≡◌, ℕ, ◌+◌, ◌-◌, ◌^◌, ◌<◌, pos, neg_ℤ, IsTrue, List, All, length, get_or}
 use Rattle.wr_geom.specs.Bounds.{Bounds}
 use Rattle.clip_masks.specs.Clips.{IsRectClip}
 use Rattle.clip_masks.specs.Coverage.{cut_by}

@@ -1,11 +1,9 @@
 -- Levels of entries, drawn into a row that knows what covers it.
-use Rattle.std.specs.Prelude.{◌≡◌, ℕ, suc, ◌+◌, ◌≤◌, ◌<◌, ◌⊎◌, Option, Some, None, IsTrue, List, All, length}
-use Rattle.wr_geom.specs.Bounds.{holds}
+use Rattle.std.specs.Prelude.{◌≡◌, ℕ, ◌+◌, ◌≤◌, ◌<◌, ◌⊎◌, Option, Some, None, List, All, length}
 use Rattle.wr_geom.specs.declared.point.Point.{Point}
 use Rattle.primitives.specs.Colours.{primitive_colour}
 use Rattle.primitives.specs.declared.entry.Entry.{Entry}
 use Rattle.batching.specs.Depths.{Depths, depth_at}
-use Rattle.tile_raster.specs.declared.span.Span.{Span}
 use Rattle.tile_raster.specs.declared.strip.Strip.{Strip}
 use Rattle.tile_raster.specs.declared.note.Noted.{Noted}
 use Rattle.tile_raster.specs.declared.note.Drawing.{Drawing}

@@ -12,6 +12,8 @@ mod scratch;
 mod span;
 mod strip;
 mod walk;
+mod window;
 
 pub use raster::draw;
 pub use scratch::Scratch;
+pub use window::draw_window;

@@ -4,7 +4,7 @@ ghost use Rattle.std.specs.Prelude.{◌≡◌, ◌≤◌, ◌<◌, ◌+ℤ◌, p
 ghost use Rattle.blend_rules.specs.Colour.{IsPixel, scaled, blended};
 ghost use Rattle.blend_rules.specs.declared.mode.Mode.TheVariants.{Normal};
 ghost use Rattle.primitives.specs.Colours.{primitive_colour};
-ghost use Rattle.tile_raster.specs.Rows.{LineModel, width, pixel, line_plane, HasPixels, IsSpan, IsPainted};
+ghost use Rattle.tile_raster.specs.Rows.{LineModel, width, pixel, line_plane, HasPixels, IsLine, IsSpan, IsPainted};
 ghost use Rattle.tile_raster.specs.Spans.{IsFirst, x_of};
 
 use crate::plane::{
@@ -54,6 +54,13 @@ impl Line {
     /// What its type keeps. It does nothing.
     pub(crate) fn know_pixels(&self)
         ensures { HasPixels self.now }
+    {
+        let _ = self.alpha.len();
+    }
+
+    /// What its type keeps of its planes. It does nothing.
+    pub(crate) fn know_line(&self)
+        ensures { IsLine self.now }
     {
         let _ = self.alpha.len();
     }

@@ -26,7 +26,7 @@ use span_kernels::{Planes, copy};
 use wr_geom::Point;
 
 /// Draws entries into the first pixels of a row, the first of which lies at `first`.
-fn draw_row(
+pub(crate) fn draw_row(
     drawing: Drawing,
     first: Point,
     count: u16,
@@ -93,7 +93,7 @@ fn put_row(row: &Line, y: u16, out: &mut Planes)
 }
 
 /// Where the first pixel of a row of planes lies.
-fn first_of(corner: Point, y: u16) -> Point
+pub(crate) fn first_of(corner: Point, y: u16) -> Point
     requires { IsCorner corner }
     ensures x { result.x ≡ corner.x }
     ensures y { result.y ≡ corner.y +ℤ pos y }

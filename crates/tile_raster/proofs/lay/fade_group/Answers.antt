@@ -1,8 +1,8 @@
-use Rattle.std.proofs.Common.{◌≡◌, ℕ, List, slice_index, ap, sym, subst, ◌∙◌, arith}
+use Rattle.std.proofs.Common.{ℕ, List, slice_index, ap, sym, subst, ◌∙◌, arith}
 use Rattle.blend_rules.specs.Colour.{scaled}
 use Rattle.blend_rules.specs.declared.colour.Px.{Px}
 use Rattle.blend_rules.proofs.Blends.{scaled_by_full}
-use Rattle.tile_raster.specs.Rows.{LineModel, pixel, IsIn, IsPainted}
+use Rattle.tile_raster.specs.Rows.{LineModel, pixel, IsPainted}
 use Rattle.tile_raster.specs.Spans.{coverage_at}
 use Rattle.tile_raster.proofs.Painting.{painted_as, painted_twice, painted_same}
 use Rattle.tile_raster.proofs.lay.fade_group.Goals as goal

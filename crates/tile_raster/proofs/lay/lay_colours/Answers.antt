@@ -1,5 +1,5 @@
-use Rattle.std.proofs.Common.{◌≡◌, ℕ, List, slice_index, ap, sym, ◌∙◌}
-use Rattle.blend_rules.specs.Colour.{scaled, blended}
+use Rattle.std.proofs.Common.{◌≡◌, ℕ, List, slice_index, ap, ◌∙◌}
+use Rattle.blend_rules.specs.Colour.{blended}
 use Rattle.blend_rules.specs.declared.colour.Px.{Px}
 use Rattle.blend_rules.specs.declared.mode.Mode.TheVariants.{Normal}
 use Rattle.clip_masks.specs.declared.clip.Clip.{Clip}

@@ -1,4 +1,4 @@
-use Rattle.std.proofs.Common.{◌≡◌, ◌≤◌, ◌-◌, ℕ}
+use Rattle.std.proofs.Common.{◌≤◌, ◌-◌, ℕ}
 use Rattle.blend_rules.specs.declared.colour.Px.{Px}
 use Rattle.tile_raster.specs.Levels.{over_primitive}
 use Rattle.tile_raster.specs.Rows.{width, IsPainted}

@@ -6,7 +6,7 @@ use Rattle.clip_masks.specs.declared.clip.Clip.{Clip}
 use Rattle.clip_masks.proofs.Chains.{cut_inside, within_cut}
 use Rattle.primitives.specs.Colours.{primitive_colour}
 use Rattle.tile_raster.specs.Levels.{over_primitive}
-use Rattle.tile_raster.specs.Rows.{pixel, IsIn}
+use Rattle.tile_raster.specs.Rows.{IsIn}
 use Rattle.tile_raster.specs.Spans.{x_of, coverage_at}
 use Rattle.tile_raster.proofs.Painting.{painted_as}
 use Rattle.tile_raster.proofs.Covered.{solid_colour, covered_under, covered_whole, over_as}

@@ -1,4 +1,3 @@
-use Rattle.std.proofs.Common.{◌≡◌}
 use Rattle.tile_raster.proofs.note.note_at.Goals as goal
 
 pub returns-then-i-drawing : goal.returns-then-i-drawing

@@ -1,4 +1,4 @@
-use Rattle.std.proofs.Common.{arith, ◌≡◌, ◌≤◌, ◌<◌, ◌+◌, ◌-◌, ℕ, suc, length, subst}
+use Rattle.std.proofs.Common.{arith, ◌≡◌, ◌<◌, ◌+◌, ◌-◌, ℕ, suc, subst}
 use Rattle.tile_raster.specs.Levels.{IsAt, StaysWithin}
 use Rattle.tile_raster.proofs.Levels.{dropped_as, same_level, before_primitive, before_pop, before_push, stays_less, stays_here}
 use Rattle.tile_raster.proofs.note.start_of.Goals as goal

@@ -1,4 +1,4 @@
-use Rattle.std.proofs.Common.{length, ◌-◌, ◌≤◌, ◌+◌, ℕ}
+use Rattle.std.proofs.Common.{◌≤◌, ◌+◌, ℕ}
 use Rattle.tile_raster.specs.Levels.{IsAt, StaysWithin}
 use Rattle.tile_raster.proofs.note.start_of.Given as goal
 

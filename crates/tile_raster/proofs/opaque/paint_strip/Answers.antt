@@ -1,4 +1,4 @@
-use Rattle.std.proofs.Common.{◌≡◌, ℕ, sym, ◌∙◌}
+use Rattle.std.proofs.Common.{ℕ, sym, ◌∙◌}
 use Rattle.blend_rules.specs.declared.colour.Px.{Px}
 use Rattle.primitives.specs.Colours.{primitive_colour}
 use Rattle.tile_raster.specs.Spans.{x_of}

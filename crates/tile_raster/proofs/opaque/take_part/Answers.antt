@@ -1,4 +1,3 @@
-use Rattle.std.proofs.Common.{◌≡◌, ℕ}
 use Rattle.clip_masks.proofs.Chains.{cut_inside, within_cut}
 use Rattle.tile_raster.specs.Spans.{x_of}
 use Rattle.tile_raster.proofs.opaque.take_part.Goals as goal

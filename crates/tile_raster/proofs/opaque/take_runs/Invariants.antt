@@ -1,4 +1,4 @@
-use Rattle.std.proofs.Common.{◌≡◌, ◌≤◌, ◌-◌, length}
+use Rattle.std.proofs.Common.{◌≡◌, ◌≤◌, ◌-◌}
 use Rattle.tile_raster.specs.Rasters.{AreTaken}
 use Rattle.tile_raster.proofs.opaque.take_runs.Given as goal
 

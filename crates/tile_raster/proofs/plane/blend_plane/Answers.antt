@@ -1,6 +1,6 @@
-use Rattle.std.proofs.Common.{◌≡◌, ℕ, ◌+◌, ◌-◌, ◌<◌, ◌≤◌, List, length, take, drop, slice_index, ◌++◌, sym, ap, subst, ◌∙◌, arith}
+use Rattle.std.proofs.Common.{◌≡◌, ℕ, ◌+◌, ◌-◌, length, take, drop, slice_index, ◌++◌, sym, ap, subst, ◌∙◌, arith}
 use Rattle.blend_rules.specs.Colour.{blended_channel}
-use Rattle.tile_raster.specs.Rows.{IsSpan, IsIn, IsPlanePainted}
+use Rattle.tile_raster.specs.Rows.{IsPlanePainted}
 use Rattle.tile_raster.proofs.Planes.{part_at, painted_part}
 use Rattle.tile_raster.proofs.plane.blend_plane.Goals as goal
 

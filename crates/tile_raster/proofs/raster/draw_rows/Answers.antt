@@ -1,5 +1,4 @@
-use Rattle.std.proofs.Common.{arith, ◌≡◌, ◌<◌, ◌^◌, inl, inr, ℕ, ℤ, pos, ◌+ℤ◌, subst, sym, ap, ap₂, ◌∙◌, to_z, of_z, w32}
-use Rattle.std.proofs.lemmas.Int.{ints}
+use Rattle.std.proofs.Common.{arith, ◌≡◌, ◌<◌, inl, inr, ℕ, ℤ, pos, ◌+ℤ◌, subst, sym, ap₂, ◌∙◌}
 use Rattle.std.proofs.lemmas.Bool.{cases_lt}
 use Rattle.primitives.specs.Stacks.{value_at}
 use Rattle.span_kernels.specs.PlanesModel.{pixel_at}

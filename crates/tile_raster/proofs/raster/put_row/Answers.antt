@@ -1,4 +1,4 @@
-use Rattle.std.proofs.Common.{◌≡◌, ◌<◌, ◌≢◌, ℕ, List, slice_index, ap, ◌∙◌}
+use Rattle.std.proofs.Common.{◌≡◌, ℕ, List, slice_index, ap, ◌∙◌}
 use Rattle.blend_rules.specs.declared.plane.Plane.{Plane}
 use Rattle.blend_rules.specs.declared.plane.Plane.TheVariants.{B, G, R, A}
 use Rattle.blend_rules.proofs.Blends.{same_bytes}

@@ -1,5 +1,5 @@
-use Rattle.std.proofs.Common.{rules, arith, ◌≡◌, inl, inr, ℕ, ◌≤ℤ◌, ◌<ℤ◌, false, to_z, of_z, w32}
-use Rattle.std.proofs.lemmas.Int.{to_z-of_z, ints}
+use Rattle.std.proofs.Common.{arith, ◌≡◌, inl, inr, ℕ, ◌≤ℤ◌, ◌<ℤ◌, false}
+use Rattle.std.proofs.lemmas.Int.{ints}
 use Rattle.wr_geom.specs.Bounds.{holds}
 use Rattle.tile_raster.specs.Spans.{x_of}
 use Rattle.tile_raster.proofs.Spans.{holds_at, holds_left, holds_right, holds_above, holds_below}

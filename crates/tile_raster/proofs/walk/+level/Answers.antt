@@ -1,13 +1,11 @@
-use Rattle.std.proofs.Common.{◌≡◌, ◌<◌, ◌≤◌, ◌+◌, ◌^◌, ◌⊎◌, ℕ, suc, length, List, inl, inr, sym, ap, subst, ◌∙◌, arith, leb, if◌then◌else◌, refl}
+use Rattle.std.proofs.Common.{◌≡◌, ◌<◌, ◌≤◌, ◌+◌, ◌⊎◌, ℕ, suc, length, inl, inr, sym, ap, subst, ◌∙◌, arith, leb, if◌then◌else◌, refl}
 use Rattle.std.proofs.lemmas.Bool.{cases_lt}
 use Rattle.blend_rules.specs.Colour.{scaled, blended}
 use Rattle.blend_rules.specs.declared.colour.Px.{Px}
 use Rattle.clip_masks.proofs.Chains.{within_cut}
-use Rattle.primitives.specs.Facts.{IsEntry}
-use Rattle.primitives.specs.declared.entry.Entry.TheVariants as entry
-use Rattle.tile_raster.specs.Levels.{IsAt, IsBegun, over_primitive, over_group}
+use Rattle.tile_raster.specs.Levels.{IsBegun, over_primitive, over_group}
 use Rattle.tile_raster.specs.Notes.{everywhere, IsPushNote}
-use Rattle.tile_raster.specs.Rows.{width, pixel, IsIn}
+use Rattle.tile_raster.specs.Rows.{pixel, IsIn}
 use Rattle.tile_raster.specs.Spans.{x_of, coverage_at}
 use Rattle.tile_raster.specs.Rasters.{start_at, IsWide, IsFit}
 use Rattle.tile_raster.proofs.Levels.{dropped_as, same_level, after_push}

@@ -1,6 +1,4 @@
-use Rattle.std.proofs.Common.{◌≡◌, ◌<◌, ◌≤◌, ◌+◌, ◌-◌, ℕ, suc, length, get_or, inl, inr, sym, ap, subst, ◌∙◌, arith}
-use Rattle.batching.specs.Depths.{depth_at}
-use Rattle.primitives.specs.declared.entry.Entry.TheVariants as entry
+use Rattle.std.proofs.Common.{◌≡◌, ◌<◌, ◌≤◌, ◌+◌, ◌-◌, ℕ, suc, length, inl, inr, ap, subst, ◌∙◌, arith}
 use Rattle.tile_raster.specs.Levels.{IsAt}
 use Rattle.tile_raster.specs.Rows.{pixel}
 use Rattle.tile_raster.specs.Spans.{x_of}

@@ -1,4 +1,4 @@
-use Rattle.std.proofs.Common.{ℕ, List, ◌≡◌, slice_index, subst, ap, ◌∙◌, refl}
+use Rattle.std.proofs.Common.{ℕ, ◌≡◌, slice_index, subst, ap, ◌∙◌}
 use Rattle.blend_rules.specs.Colour.{blended, blended_channel}
 use Rattle.blend_rules.specs.declared.colour.Px.{Px}
 use Rattle.blend_rules.proofs.Blends.{blend_is_pixel}

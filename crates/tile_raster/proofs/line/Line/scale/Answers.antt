@@ -1,14 +1,9 @@
-use Rattle.std.proofs.Common.{ℕ, ◌≡◌, ◌<◌, ◌≤◌, ◌^◌, slice_index, subst, refl, ap, ◌∙◌, arith}
-use Rattle.blend_rules.specs.Colour.{IsPixel, product, scaled, blended, blended_channel}
+use Rattle.std.proofs.Common.{ℕ, subst}
+use Rattle.blend_rules.specs.Colour.{product, scaled}
 use Rattle.blend_rules.specs.declared.colour.Px.{Px}
-use Rattle.blend_rules.specs.declared.mode.Mode.TheVariants.{Normal}
-use Rattle.blend_rules.proofs.Blends.{blend_is_pixel, scaled_is_pixel}
-use Rattle.span_kernels.specs.Bytes.{over_byte}
-use Rattle.primitives.specs.Colours.{primitive_colour}
-use Rattle.primitives.proofs.Colours.{colour_is_pixel}
-use Rattle.tile_raster.specs.Rows.{LineModel, pixel, IsLine, IsIn, IsPainted}
-use Rattle.tile_raster.specs.Spans.{x_of}
-use Rattle.tile_raster.proofs.Lines.{planes_painted, painted_line, over_by_planes, scaled_by_planes, blended_by_planes}
+use Rattle.blend_rules.proofs.Blends.{scaled_is_pixel}
+use Rattle.tile_raster.specs.Rows.{LineModel, pixel, IsPainted}
+use Rattle.tile_raster.proofs.Lines.{planes_painted, painted_line, scaled_by_planes}
 use Rattle.tile_raster.proofs.line.Line.scale.Goals as goal
 
 pub invariant_of-self : goal.invariant_of-self
