@@ -86,31 +86,22 @@ fn time_kind(
     time(rt, name, &[Entry::Primitive(primitive)], stage)
 }
 
-/// Times a group of one opaque solid.
-fn time_group(
-    rt: &HostRuntime,
-    mode: Mode,
-    clips: [Sequence<Clip>; 2],
-    stage: &mut Stage,
-) -> io::Result<()>
+/// Times a group of one opaque solid, at half its opacity.
+fn time_group(rt: &HostRuntime, name: &str, mode: Mode, stage: &mut Stage) -> io::Result<()>
     requires { stage.old.planes.width ≤ stage.old.scratch.width }
     ensures { stage.new.planes.width ≤ stage.new.scratch.width }
 {
-    let [own, inner] = clips;
-    let Some(primitive) = Primitive::new(Kind::Solid(OPAQUE), whole(), inner) else {
+    let clips = no_clips(rt.alloc());
+    let Some(primitive) = Primitive::new(Kind::Solid(OPAQUE), whole(), clips) else {
         return Ok(());
     };
     let push = Entry::Push {
         opacity: 128,
         mode,
-        clips: own,
+        clips: no_clips(rt.alloc()),
     };
-    time(
-        rt,
-        "a group",
-        &[push, Entry::Primitive(primitive), Entry::Pop],
-        stage,
-    )
+    let entries = [push, Entry::Primitive(primitive), Entry::Pop];
+    time(rt, name, &entries, stage)
 }
 
 /// Times each kind of entry.
@@ -144,13 +135,8 @@ fn time_all(rt: &HostRuntime, stage: &mut Stage) -> io::Result<()>
     time_kind(rt, "an opaque image", image(1), no_clips(alloc), stage)?;
     time_kind(rt, "a translucent image", image(2), no_clips(alloc), stage)?;
     time_kind(rt, "a glyph", glyph(alloc, OPAQUE)?, no_clips(alloc), stage)?;
-    time_group(rt, Mode::Normal, [no_clips(alloc), no_clips(alloc)], stage)?;
-    time_group(
-        rt,
-        Mode::Multiply,
-        [no_clips(alloc), no_clips(alloc)],
-        stage,
-    )
+    time_group(rt, "a group", Mode::Normal, stage)?;
+    time_group(rt, "a group in mode multiply", Mode::Multiply, stage)
 }
 
 /// Makes what lists are drawn with, and times each kind of entry with it.

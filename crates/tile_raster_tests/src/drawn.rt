@@ -58,10 +58,7 @@ fn beyond_edges(alloc: Global, last: i8) -> Result<Entries, AllocError> {
     entries.push(128, Mode::Difference)?;
     entries.primitive(Kind::Solid(colour(70, 0, 0, 90)), rect(2, 1, 120, 9))?;
     entries.pop()?;
-    entries.primitive(
-        Kind::Solid(colour(1, 2, 3, 255)),
-        rect(last, 0, 9, 9),
-    )?;
+    entries.primitive(Kind::Solid(colour(1, 2, 3, 255)), rect(last, 0, 9, 9))?;
     Ok(entries)
 }
 

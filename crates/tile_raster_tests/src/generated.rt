@@ -171,10 +171,10 @@ fn is_drawn(
 /// How many lists are drawn as they are painted.
 fn drawn_count(alloc: Global, store: &Store) -> Result<u8, NoMemory> {
     let mut scratch = Scratch::new(alloc, 17)?;
-    let mut count = 0;
+    let mut count = 0u8;
     for seed in 0..LISTS {
         if is_drawn(alloc, seed, store, &mut scratch)? {
-            count += 1;
+            count = count.saturating_add(1);
         }
     }
     Ok(count)

@@ -46,14 +46,20 @@ entries-preserved c =
     let before = c.entries.opened in
     let after = c.match-entries-i.opened in
     let kept : (after ≤ 64) × Kept before after (64 - before) (64 - after) (drop i es) (drop (i + 1) es) = elim c.match-entries-i.branch [
-      | in-Primitive w ↦ (omega (arith, w.opened-is, c.entries.invariant.few),
-          through before before (64 - before) (64 - before) i es _ (left_as es i _ _ c.entries-test.true c.index-entries-i.is w.in-Primitive.is) (primitive_kept before (64 - before) _ (drop (i + 1) es)) after (64 - after) (omega (arith, w.opened-is)) (omega (arith, w.opened-is)))
-      | in-Push+else-opened-eq64 w ↦ (omega (arith, w.opened-is, w.if-opened-eq64.false, c.entries.invariant.few),
-          subst (λ (k : ℕ). Kept before after k (64 - after) (drop i es) (drop (i + 1) es)) (let f : suc (64 - after) ≡ 64 - before = omega (arith, w.opened-is, w.if-opened-eq64.false, c.entries.invariant.few) in f)
-          (through before (suc before) (suc (64 - after)) (64 - after) i es _ (left_as es i _ _ c.entries-test.true c.index-entries-i.is w.in-Push.is) (push_kept before (64 - after) _ _ _ (drop (i + 1) es)) after (64 - after) (omega (arith, w.opened-is)) (omega arith)))
-      | in-Pop+else-opened-eq0 w ↦ (omega (arith, w.opened-is, c.entries.invariant.few),
-          subst (λ (k : ℕ). Kept k after (64 - before) (64 - after) (drop i es) (drop (i + 1) es)) (let f : suc after ≡ before = omega (arith, w.opened-is, w.if-opened-eq0.false) in f)
-          (through (suc after) after (64 - before) (suc (64 - before)) i es _ (left_as es i _ _ c.entries-test.true c.index-entries-i.is w.in-Pop.is) (pop_kept after (64 - before) (drop (i + 1) es)) after (64 - after) (omega arith) (omega (arith, w.opened-is, w.if-opened-eq0.false, c.entries.invariant.few))))
+      | in-Primitive w ↦ (
+        omega (arith, w.opened-is, c.entries.invariant.few),
+        through before before (64 - before) (64 - before) i es _ (left_as es i _ _ c.entries-test.true c.index-entries-i.is w.in-Primitive.is) (primitive_kept before (64 - before) _ (drop (i + 1) es)) after (64 - after) (omega (arith, w.opened-is)) (omega (arith, w.opened-is)),
+      )
+      | in-Push+else-opened-eq64 w ↦ (
+        omega (arith, w.opened-is, w.if-opened-eq64.false, c.entries.invariant.few),
+        subst (λ (k : ℕ). Kept before after k (64 - after) (drop i es) (drop (i + 1) es)) (let f : suc (64 - after) ≡ 64 - before = omega (arith, w.opened-is, w.if-opened-eq64.false, c.entries.invariant.few) in f)
+            (through before (suc before) (suc (64 - after)) (64 - after) i es _ (left_as es i _ _ c.entries-test.true c.index-entries-i.is w.in-Push.is) (push_kept before (64 - after) _ _ _ (drop (i + 1) es)) after (64 - after) (omega (arith, w.opened-is)) (omega arith)),
+      )
+      | in-Pop+else-opened-eq0 w ↦ (
+        omega (arith, w.opened-is, c.entries.invariant.few),
+        subst (λ (k : ℕ). Kept k after (64 - before) (64 - after) (drop i es) (drop (i + 1) es)) (let f : suc after ≡ before = omega (arith, w.opened-is, w.if-opened-eq0.false) in f)
+            (through (suc after) after (64 - before) (suc (64 - before)) i es _ (left_as es i _ _ c.entries-test.true c.index-entries-i.is w.in-Pop.is) (pop_kept after (64 - before) (drop (i + 1) es)) after (64 - after) (omega arith) (omega (arith, w.opened-is, w.if-opened-eq0.false, c.entries.invariant.few))),
+      )
     ] in
     record {
       right = omega (arith, c.entries-test.true);
