@@ -1,0 +1,4 @@
+pub mod Grids
+pub mod Laws
+pub mod Parts
+pub mod Tiles
