@@ -1,5 +1,5 @@
 -- Grids: the tiles of some columns and rows, row by row.
-use Rattle.std.specs.Prelude.{◌≡◌, ℕ, zero, suc, ◌+◌, ◌*◌, ◌/◌, ◌%◌, ◌^◌, ◌<◌, ◌≤◌, ◌⊎◌, List, [], ◌∷◌, ℤ, pos, neg_ℤ, ◌+ℤ◌, ◌-ℤ◌, ◌≤ℤ◌, ◌<ℤ◌, unsigned_abs, if◌then◌else◌}
+use Rattle.std.specs.Prelude.{◌≡◌, ℕ, zero, suc, ◌*◌, ◌/◌, ◌%◌, ◌^◌, ◌<◌, ◌⊎◌, List, [], ◌∷◌, ℤ, pos, neg_ℤ, ◌+ℤ◌, ◌-ℤ◌, ◌≤ℤ◌, ◌<ℤ◌, unsigned_abs, if◌then◌else◌}
 use Rattle.std.specs.Int.{int_div_euclid}
 use Rattle.wr_geom.specs.Bounds.{Bounds, IsRect, has_points, shifted}
 use Rattle.wr_geom.specs.declared.point.Point.{Point}
@@ -73,9 +73,27 @@ grid_over s b =
     if has_points b then record { sides = s; columns = span_over s.width b.x0 b.x1; rows = span_over s.height b.y0 b.y1 }
     else record { sides = s; columns = no_tiles; rows = no_tiles }
 
+-- the way back from a point to (0, 0)
+abbrev pub way_back : Point → Point
+way_back p = record { x = neg_ℤ p.x; y = neg_ℤ p.y }
+
 -- a part of the view in the coordinates of a slice with this origin
 abbrev pub in_slice : Bounds → Point → Bounds
-in_slice b origin = shifted b (record { x = neg_ℤ origin.x; y = neg_ℤ origin.y })
+in_slice b origin = shifted b (way_back origin)
+
+-- it lies in a view of at most 4,096 pixels a side
+pub record IsViewPart (b : Bounds) : Type 0 where
+  pub left : pos 0 ≤ℤ b.x0
+  pub top : pos 0 ≤ℤ b.y0
+  pub right : b.x1 ≤ℤ pos 4096
+  pub bottom : b.y1 ≤ℤ pos 4096
+
+-- both coordinates lie within 2^27 pixels of 0
+pub record IsWithinReach (p : Point) : Type 0 where
+  pub left : neg_ℤ (pos (2 ^ 27)) ≤ℤ p.x
+  pub top : neg_ℤ (pos (2 ^ 27)) ≤ℤ p.y
+  pub right : p.x ≤ℤ pos (2 ^ 27)
+  pub bottom : p.y ≤ℤ pos (2 ^ 27)
 
 -- all four edges lie within 2^28 pixels of 0, so that a tile that it meets is in range
 pub record HasTileRoom (b : Bounds) : Type 0 where

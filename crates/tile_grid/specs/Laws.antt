@@ -1,11 +1,11 @@
 -- What holds of tiles and grids, as laws on the definitions.
-use Rattle.std.specs.Prelude.{◌≡◌, ◌↔◌, ℕ, ◌<◌, ◌^◌, IsTrue, ℤ, pos, neg_ℤ, ◌≤ℤ◌, Contains, All, AllPairs, get_or, length}
+use Rattle.std.specs.Prelude.{◌≡◌, ◌↔◌, ℕ, ◌<◌, IsTrue, ℤ, Contains, All, AllPairs, get_or, length}
 use Rattle.wr_geom.specs.Bounds.{Bounds, holds}
 use Rattle.wr_geom.specs.declared.point.Point.{Point}
 use Rattle.tile_grid.specs.declared.tile.GridTile.{GridTile}
 use Rattle.tile_grid.specs.declared.tile.TileSides.{TileSides}
 use Rattle.tile_grid.specs.Tiles.{AreTileSides, meets, tile, tile_rect}
-use Rattle.tile_grid.specs.Grids.{GridModel, HasTileRoom, IsBefore, IsGrid, count_of, tile_at, tiles_of, grid_over, in_slice}
+use Rattle.tile_grid.specs.Grids.{GridModel, HasTileRoom, IsBefore, IsGrid, IsViewPart, IsWithinReach, count_of, tile_at, tiles_of, grid_over, in_slice}
 
 -- two rectangles meet exactly where a point lies in both
 abbrev pub MeetingIsSharingAPoint : Type 0
@@ -39,18 +39,6 @@ TilesAreCounted = (g : GridModel) → length (tiles_of g) ≡ count_of g
 abbrev pub TilesAreInRange : Type 0
 TilesAreInRange = (s : TileSides) (b : Bounds) → AreTileSides s → HasTileRoom b → IsGrid (grid_over s b)
 
--- a slice with an origin within 2^27 pixels of 0 has room, wherever it shows in a view of 4,096 pixels a side
-pub record IsViewPart (b : Bounds) : Type 0 where
-  pub left : pos 0 ≤ℤ b.x0
-  pub top : pos 0 ≤ℤ b.y0
-  pub right : b.x1 ≤ℤ pos 4096
-  pub bottom : b.y1 ≤ℤ pos 4096
-
-pub record IsFarAtMost (n : ℕ) (p : Point) : Type 0 where
-  pub left : neg_ℤ (pos n) ≤ℤ p.x
-  pub top : neg_ℤ (pos n) ≤ℤ p.y
-  pub right : p.x ≤ℤ pos n
-  pub bottom : p.y ≤ℤ pos n
-
+-- a slice with an origin in reach has room, wherever it shows in the view
 abbrev pub ViewsHaveTileRoom : Type 0
-ViewsHaveTileRoom = (b : Bounds) (origin : Point) → IsViewPart b → IsFarAtMost (2 ^ 27) origin → HasTileRoom (in_slice b origin)
+ViewsHaveTileRoom = (b : Bounds) (origin : Point) → IsViewPart b → IsWithinReach origin → HasTileRoom (in_slice b origin)

@@ -1,6 +1,6 @@
 //! Tiles side by side on one axis.
 
-ghost use Rattle.std.specs.Prelude.{◌≡◌, ◌≤◌, ◌<◌, ◌+ℤ◌, ◌-ℤ◌, ◌<ℤ◌, ◌↔◌, ℕ, pos, unsigned_abs};
+ghost use Rattle.std.specs.Prelude.{◌≡◌, ◌≤◌, ◌<◌, ◌^◌, ◌+ℤ◌, ◌-ℤ◌, ◌<ℤ◌, ◌≤ℤ◌, ◌↔◌, ℕ, pos, neg_ℤ, unsigned_abs};
 ghost use Rattle.wr_geom.specs.Bounds.{IsCoordinate};
 ghost use Rattle.tile_grid.specs.Tiles.{IsTileSide};
 ghost use Rattle.tile_grid.specs.Grids.{tile_of, span_over, IsNearSpan};
@@ -25,7 +25,8 @@ impl TileSpan {
     /// How many of its tiles come before a tile.
     pub(crate) fn before(self, tile: i32) -> u32
         requires near { IsNearSpan self }
-        requires tile { IsCoordinate (tile -ℤ pos 1) }
+        requires low { neg_ℤ (pos (2 ^ 30)) ≤ℤ tile }
+        requires high { tile ≤ℤ pos (2 ^ 30) }
         ensures inside { result ≤ self.count }
         ensures before { (k : ℕ) → k < self.count → (k < result) ↔ ((self.first +ℤ pos k) <ℤ tile) }
     {

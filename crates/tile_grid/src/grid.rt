@@ -1,9 +1,9 @@
 //! The tiles that a rectangle meets.
 
 ghost use Rattle.std.specs.Prelude.{◌≡◌, ◌<◌, ◌↔◌, ℤ, IsTrue, Contains, AllPairs};
-ghost use Rattle.wr_geom.specs.Bounds.{IsInRange, IsRect, has_points};
+ghost use Rattle.wr_geom.specs.Bounds.{IsRect};
 ghost use Rattle.tile_grid.specs.Tiles.{AreTileSides, meets, tile, tile_rect};
-ghost use Rattle.tile_grid.specs.Grids.{HasTileRoom, IsGrid, IsBefore, count_of, tile_in, tile_at, tiles_of, grid_over, in_slice};
+ghost use Rattle.tile_grid.specs.Grids.{HasTileRoom, IsGrid, IsBefore, IsViewPart, IsWithinReach, count_of, tile_in, tile_at, tiles_of, grid_over, in_slice, way_back};
 
 use crate::axis::{TileSpan, span_over};
 use crate::tile::{GridTile, TileSides, tile};
@@ -60,10 +60,11 @@ impl TileGrid {
     }
 
     /// The visible tiles of a slice: those that meet the part of the view in which it shows, in its own coordinates.
-    /// These lie within 2^28 pixels of 0.
+    /// The view has at most 4,096 pixels a side, and the origin lies within 2^27 pixels of 0.
     pub fn visible(sides: TileSides, shown: Rect, origin: Point) -> TileGrid
         requires sides { AreTileSides sides }
-        requires room { HasTileRoom (in_slice shown origin) }
+        requires shown { IsViewPart shown }
+        requires origin { IsWithinReach origin }
         ensures value { result ≡ grid_over sides (in_slice shown origin) }
         ensures tiles { (col row : ℤ) → Contains (tiles_of result) (tile sides col row) ↔ IsTrue (meets (tile_rect sides col row) (in_slice shown origin)) }
         ensures order { AllPairs IsBefore (tiles_of result) }
@@ -125,12 +126,18 @@ impl TileGrid {
 
 /// A part of the view in the coordinates of a slice.
 fn shown_in_slice(shown: Rect, origin: Point) -> Rect
-    requires { IsInRange (in_slice shown origin) }
-    ensures { result ≡ in_slice shown origin }
+    requires shown { IsViewPart shown }
+    requires origin { IsWithinReach origin }
+    ensures value { result ≡ in_slice shown origin }
+    ensures room { HasTileRoom (in_slice shown origin) }
 {
-    let back = Point {
-        x: -origin.x,
-        y: -origin.y,
-    };
-    shown.shift(back)
+    shown.shift(way_back(origin))
+}
+
+/// The way back from a point to (0, 0).
+fn way_back(p: Point) -> Point
+    requires { IsWithinReach p }
+    ensures { result ≡ way_back p }
+{
+    Point { x: -p.x, y: -p.y }
 }
