@@ -1,11 +1,11 @@
 -- What is counted of answers, one by one.
-use Rattle.std.proofs.Common.{◌≡◌, ℕ, zero, suc, ◌+◌, ◌*◌, ◌≤◌, ◌<◌, ◌^◌, Bool, true, false, cond, List, [], ◌∷◌, ◌++◌, length, Result, Ok, Err, refl, sym, ap, subst, ◌∙◌, arith}
+use Rattle.std.proofs.Common.{◌≡◌, ℕ, suc, ◌+◌, ◌≤◌, Bool, true, false, cond, List, [], ◌∷◌, length, Ok, Err, refl, sym, ap, subst, ◌∙◌, arith}
 use Rattle.std.specs.List.{filter, sum_by}
 use Rattle.std.proofs.lemmas.List.Sums.{sum_by-cons}
 use Rattle.record_frame.specs.Framing.{max_entries}
-use Rattle.file_generator.specs.Files.{Generating, next_payload, after_payload, payload_bytes, ops, payloads_from, payloads, file}
+use Rattle.file_generator.specs.Files.{Generating, next_payload, after_payload, payloads_from, payloads, file}
 use Rattle.file_generator.proofs.Framed.{file_framed}
-use Rattle.frame_replay.specs.Answer.{Accepted, ReplayState, accepted, next_state, start_state}
+use Rattle.frame_replay.specs.Answer.{ReplayState, accepted, next_state, start_state}
 use Rattle.frame_replay.specs.Load.{TxnAnswer, answers_from, answers_to, is_frame, is_refusal, pixel_sum, frame_sum, counts_of, with_frame_of, with_answer}
 use Rattle.frame_replay.specs.declared.load.Counts.{Counts}
 

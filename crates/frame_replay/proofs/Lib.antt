@@ -2,6 +2,8 @@ pub mod Statuses
 pub mod Replays
 pub mod Marks
 pub mod Pixels
+pub mod Weaves
+pub mod Shown
 pub mod Refusals
 pub mod Counting
 pub mod Sizes

@@ -6,6 +6,7 @@ ghost use Rattle.scene_state.specs.Outcome.{Answers};
 ghost use Rattle.frame_replay.specs.Answer.{accepted, accepted_record, next_state, record_of, refusal_record};
 
 use crate::frame::put_frame;
+use crate::pixel_source::PixelSource;
 use field_forms::{put_byte, put_u32};
 use image_store::Gens;
 use scene_state::{ApplyError, Scene};
@@ -22,11 +23,17 @@ fn put_refusal(out: &mut Vec<u8>, fault: Fault) -> Result<(), AllocError>
 }
 
 /// Appends the record of an accepted transaction: the scene's frame where it asks for one.
-fn put_accepted(out: &mut Vec<u8>, scene: &Scene, frame: bool) -> Result<(), AllocError>
+fn put_accepted<P: PixelSource>(
+    alloc: Global,
+    scene: &Scene,
+    frame: bool,
+    pixels: &mut P,
+    out: &mut Vec<u8>,
+) -> Result<(), AllocError>
     ensures { OnOk result (out.new.items ≡ out.old.items ++ accepted_record frame scene.now) }
 {
     if frame {
-        return put_frame(out, scene);
+        return put_frame(alloc, scene, pixels, out);
     }
     put_byte(out, b'A')
 }
@@ -63,11 +70,12 @@ pub(crate) fn apply(
 
 /// Puts the record that answers a payload into `out`, and takes the scene and the counter of generations to what
 /// follows. A payload that is refused leaves both.
-pub(crate) fn answer(
+pub(crate) fn answer<P: PixelSource>(
     alloc: Global,
     payload: &[u8],
     scene: &mut Scene,
     gens: &mut Gens,
+    pixels: &mut P,
     out: &mut Vec<u8>,
 ) -> Result<(), AllocError>
     requires { length payload.now ≤ 2 ^ 26 }
@@ -78,7 +86,7 @@ pub(crate) fn answer(
     match apply(alloc, payload, scene, gens) {
         Ok((next, frame)) => {
             *scene = next;
-            put_accepted(out, scene, frame)
+            put_accepted(alloc, scene, frame, pixels, out)
         }
         Err(ApplyError::Fault(fault)) => put_refusal(out, fault),
         Err(ApplyError::NoMemory) => Err(AllocError),

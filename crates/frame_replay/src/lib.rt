@@ -2,10 +2,13 @@
 #![tactic(auto)]
 
 mod answer;
+mod drawing;
 mod drawn;
 mod frame;
 mod laws;
 mod load;
+mod painted;
+mod pixel_source;
 mod program;
 mod replay;
 mod status;

@@ -10,7 +10,8 @@ ghost use Rattle.frame_replay.specs.Frame.{view_pixels};
 ghost use Rattle.frame_replay.specs.Load.{HasRoom, Summarises, answers_to, counts_of, line, summary, summary_lines, with_answer, with_frame_of};
 
 use crate::answer::apply;
-use crate::frame::put_pixels;
+use crate::drawing::Drawing;
+use crate::pixel_source::PixelSource;
 use file_generator::{Generator, MAX_TRANSACTIONS};
 use image_store::Gens;
 use scene_state::{ApplyError, Scene, know_scene};
@@ -26,12 +27,13 @@ struct Counts {
     pixels: u64,
 }
 
-/// The scene, what is counted so far, and memory for the pixels of a frame.
+/// The scene, what is counted so far, and what frames are drawn with: memory for the pixels of one.
 #[derive(Drop)]
 struct Loading {
     scene: Scene,
     gens: Gens,
     counts: Counts,
+    drawing: Drawing,
     pixels: Vec<u8>,
 }
 
@@ -49,13 +51,18 @@ fn byte_sum(bytes: &[u8]) -> u64
 }
 
 /// The sum of the bytes of a frame's pixels. `pixels` takes them first.
-fn frame_sum(scene: &Scene, pixels: &mut Vec<u8>) -> Result<u64, AllocError>
+fn frame_sum(
+    alloc: Global,
+    scene: &Scene,
+    drawing: &mut Drawing,
+    pixels: &mut Vec<u8>,
+) -> Result<u64, AllocError>
     ensures value { IfOk result (λ total. total ≡ sum (flat_map colour_bytes (view_pixels scene.now))) }
     ensures most { IfOk result (λ total. total ≤ 2 ^ 34) }
 {
     know_scene(scene);
     pixels.clear();
-    put_pixels(pixels, scene)?;
+    drawing.put_pixels(alloc, scene, pixels)?;
     Ok(byte_sum(pixels.as_slice()))
 }
 
@@ -73,19 +80,20 @@ impl Loading {
                 refused: 0,
                 pixels: 0,
             },
+            drawing: Drawing::new(),
             pixels: Vec::new(alloc),
         }
     }
 
     /// Counts a frame of the scene.
-    fn count_frame(&mut self) -> Result<(), AllocError>
+    fn count_frame(&mut self, alloc: Global) -> Result<(), AllocError>
         requires { HasRoom self.old.counts }
         ensures counts { OnOk result (self.new.counts ≡ with_frame_of self.old.scene self.old.counts) }
         ensures scene { self.new.scene ≡ self.old.scene }
         ensures gens { self.new.gens ≡ self.old.gens }
         ensures most { OnOk result (self.new.counts.pixels ≤ self.old.counts.pixels + 2 ^ 34) }
     {
-        let total = frame_sum(&self.scene, &mut self.pixels)?;
+        let total = frame_sum(alloc, &self.scene, &mut self.drawing, &mut self.pixels)?;
         self.counts.frames += 1;
         self.counts.pixels += total;
         Ok(())
@@ -103,7 +111,7 @@ impl Loading {
             Ok((next, frame)) => {
                 self.scene = next;
                 if frame {
-                    return self.count_frame();
+                    return self.count_frame(alloc);
                 }
                 Ok(())
             }

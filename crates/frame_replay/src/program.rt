@@ -9,7 +9,10 @@ ghost use Rattle.frame_replay.specs.Outcome.{Completes, Outcome, note_of};
 ghost use Rattle.frame_replay.specs.Commands.{IfLoad, IsCommand, command_named, completes, leaves};
 ghost use Rattle.frame_replay.specs.Load.{Summarises};
 
+use crate::drawing::Drawing;
 use crate::load::load;
+use crate::painted::Painted;
+use crate::pixel_source::PixelSource;
 use crate::replay::Replay;
 use crate::status::answer_status;
 use crate::words::{Command, find_command};
@@ -20,8 +23,14 @@ use wr_io::{Sink, Source, write_whole};
 /// The exit status of words that name no command.
 const USAGE: u8 = 1;
 
-/// Answers a file of transactions, and gives the exit status: 0, or 2 to 5.
-fn replay<S: Source, K: Sink>(alloc: Global, source: &mut S, sink: &mut K) -> u8
+/// Answers a file of transactions by frames whose pixels are made in a given way, and gives the exit status: 0, or 2
+/// to 5.
+fn replay<P: PixelSource, S: Source, K: Sink>(
+    alloc: Global,
+    pixels: P,
+    source: &mut S,
+    sink: &mut K,
+) -> u8
     ensures range { (result ≢ 1) × (result ≤ 5) }
     ensures told { IfSome (S.left source.old) (λ input. Took input (S.left source.new) (Outcome replayed result (K.written sink.old) (K.written sink.new))) }
     ensures source_never_falls { S.faults source.old ≤ S.faults source.new }
@@ -32,7 +41,7 @@ fn replay<S: Source, K: Sink>(alloc: Global, source: &mut S, sink: &mut K) -> u8
     ensures sink_count { result ≢ 4 → K.faults sink.new ≡ K.faults sink.old }
     ensures complete { result ≢ 3 → result ≢ 4 → IfSome (S.left source.old) (Completes replayed result) }
 {
-    let by = Replay::new(alloc);
+    let by = Replay::new(alloc, pixels);
     answer_status(alloc, b"WRF1", Transactions { by }, source, sink)
 }
 
@@ -52,8 +61,8 @@ fn perform<S: Source, K: Sink>(alloc: Global, command: Command, source: &mut S, 
     ensures complete { result ≢ 3 → result ≢ 4 → IfSome (S.left source.old) (completes command result) }
 {
     match command {
-        Command::Replay => replay(alloc, source, sink),
-        Command::Paint => replay(alloc, source, sink),
+        Command::Replay => replay(alloc, Drawing::new(), source, sink),
+        Command::Paint => replay(alloc, Painted, source, sink),
         Command::Load { number, count } => load(alloc, number, count, sink),
     }
 }

@@ -8,9 +8,11 @@ mod causes;
 mod drawn;
 mod files;
 mod frames;
+mod items;
 mod loads;
 mod payloads;
 mod refusals;
+mod rows;
 
 /// What a run left.
 #[derive(Drop)]
