@@ -57,7 +57,7 @@ written bytes start over = take start bytes ++ (over ++ drop (length over) (drop
 abbrev pub overwritten_to : ℕ → List ℕ → ℕ → List ℕ → List ℕ
 overwritten_to len bytes start over = take len (written bytes start over ++ drop (length (written bytes start over)) bytes)
 
--- What was woven into the zeros that were put behind bytes: it stands behind them.
+-- What was woven into the zeros that were put after bytes: it stands after them.
 pub put_behind : (old filled woven : List ℕ) (start end len : ℕ) → start ≡ length old → start ≤ end → filled ≡ take end old ++ replicate (end - length old) 0 → length woven ≡ end - start → len ≡ length filled
     → overwritten_to len filled start woven ≡ old ++ woven
 put_behind old filled woven start end len at order is long size =
