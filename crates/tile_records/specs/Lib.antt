@@ -1,0 +1,10 @@
+pub mod Counts
+pub mod Dirt
+pub mod Interning
+pub mod Keys
+pub mod Laws
+pub mod Making
+pub mod Passing
+pub mod Picks
+pub mod Right
+pub mod Tiles

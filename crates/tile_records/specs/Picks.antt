@@ -1,0 +1,28 @@
+-- What of a slice's entries matters in a tile.
+use Rattle.std.specs.Prelude.{Bool, List, [], ◌∷◌, ◌++◌, reverse, if◌then◌else◌}
+use Rattle.wr_geom.specs.Bounds.{Bounds}
+use Rattle.primitives.specs.Colours.{visible_rect}
+use Rattle.primitives.specs.PrimitiveModel.{PrimitiveModel}
+use Rattle.primitives.specs.declared.entry.Entry.{Entry}
+use Rattle.primitives.specs.declared.entry.Entry.TheVariants as entry
+use Rattle.tile_grid.specs.Tiles.{meets}
+
+-- whether a primitive's visible rectangle meets a tile's
+abbrev pub shows_in : Bounds → PrimitiveModel → Bool
+shows_in rect p = meets rect (visible_rect p)
+
+module _ {A : Type 0} (shows : PrimitiveModel → Bool) where
+  -- What is picked of things, one for each entry. A group waits from its Push on until a primitive in it is picked. Where
+  -- none is, it ends with its Pop and leaves nothing. The groups that wait come first, the innermost one first.
+  abbrev pub picked_behind : List A → List Entry → List A → List A
+  picked_behind waiting [] xs = []
+  picked_behind waiting (e ∷ es) [] = []
+  picked_behind waiting (entry.Primitive p ∷ es) (x ∷ xs) =
+      if shows p then reverse waiting ++ (x ∷ picked_behind [] es xs) else picked_behind waiting es xs
+  picked_behind waiting (entry.Push opacity mode clips ∷ es) (x ∷ xs) = picked_behind (x ∷ waiting) es xs
+  picked_behind [] (entry.Pop ∷ es) (x ∷ xs) = x ∷ picked_behind [] es xs
+  picked_behind (w ∷ waiting) (entry.Pop ∷ es) (x ∷ xs) = picked_behind waiting es xs
+
+-- the primitives whose visible rectangles meet the tile, and the groups in which one is left, in their order
+abbrev pub picked : Bounds → List Entry → List Entry
+picked rect es = picked_behind (shows_in rect) [] es es

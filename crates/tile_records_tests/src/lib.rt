@@ -1,0 +1,11 @@
+//! Tests of the crate `tile_records`.
+#![tactic(auto)]
+
+#[cfg(test)]
+mod dirt;
+#[cfg(test)]
+mod holding;
+#[cfg(test)]
+mod made;
+#[cfg(test)]
+mod picking;
