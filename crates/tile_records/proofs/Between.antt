@@ -8,7 +8,7 @@ use Rattle.wr_geom.specs.Bounds.{Bounds}
 use Rattle.primitives.specs.declared.entry.Entry.{Entry}
 use Rattle.tile_records.specs.declared.id.Id.{Id}
 use Rattle.tile_records.specs.Interning.{Interning, AreHeld, IsDistinct, entries_under, ids_keys}
-use Rattle.tile_records.specs.Dirt.{Pair, same_entry, same_id, rests, reversed, fronts, middles, dirt_between, dirt, SharedFront}
+use Rattle.tile_records.specs.Dirt.{Pair, same_entry, same_id, rests, reversed, fronts, middles, dirt_between, dirt, SharedPrefix}
 use Rattle.tile_records.proofs.Unders.{under, unders, rests_under, under_reversed, keys_append}
 
 -- ---- lists
@@ -50,7 +50,7 @@ module _ (m : Interning) (distinct : IsDistinct m) (exact : (a b : Entry) → sa
   back_under n xs h =
       under_reversed m distinct exact self (drop n (reverse xs)) (held_drop m n (reverse xs) (held_reversed m xs h)) ∙ ap (under m) (before_end n xs)
 
-  fronts_under : (xs ys : List Id) (n : ℕ) → AreHeld m (ids_keys xs) → AreHeld m (ids_keys ys) → SharedFront n (reverse xs) (reverse ys)
+  fronts_under : (xs ys : List Id) (n : ℕ) → AreHeld m (ids_keys xs) → AreHeld m (ids_keys ys) → SharedPrefix n (reverse xs) (reverse ys)
       → fronts same_entry (under m xs) (under m ys) ≡ unders m (record { old = take (length xs - n) xs; new = take (length ys - n) ys })
   fronts_under xs ys n h k e =
       ap₂ (λ (a b : List Entry). reversed (rests same_entry a b)) (under_reversed m distinct exact self xs h) (under_reversed m distinct exact self ys k)
@@ -59,7 +59,7 @@ module _ (m : Interning) (distinct : IsDistinct m) (exact : (a b : Entry) → sa
       ∙ ap₂ (λ (a b : List Entry). let p : Pair Entry = record { old = a; new = b } in p) (back_under n xs h) (back_under n ys k)
 
   middles_under : (xs ys zs ws : List Id) (i n : ℕ) → AreHeld m (ids_keys xs) → AreHeld m (ids_keys ys)
-      → zs ≡ drop i xs → ws ≡ drop i ys → SharedFront i xs ys → SharedFront n (reverse zs) (reverse ws)
+      → zs ≡ drop i xs → ws ≡ drop i ys → SharedPrefix i xs ys → SharedPrefix n (reverse zs) (reverse ws)
       → middles same_entry (under m xs) (under m ys) ≡ unders m (record { old = take (length zs - n) zs; new = take (length ws - n) ws })
   middles_under xs ys zs ws i n h k e f g s =
       ap (λ (p : Pair Entry). fronts same_entry p.old p.new) (rests_under m distinct exact self xs ys h k ∙ ap (unders m) g)
@@ -67,8 +67,8 @@ module _ (m : Interning) (distinct : IsDistinct m) (exact : (a b : Entry) → sa
       ∙ fronts_under zs ws n (subst (λ (l : List Id). AreHeld m (ids_keys l)) (sym e) (held_drop m i xs h)) (subst (λ (l : List Id). AreHeld m (ids_keys l)) (sym f) (held_drop m i ys k)) s
 
   pub dirt_under : (xs ys : List Id) (i n : ℕ) (rect : Bounds) → AreHeld m (ids_keys xs) → AreHeld m (ids_keys ys)
-      → SharedFront i xs ys
-      → SharedFront n (reverse (take (length xs - i) (drop i xs))) (reverse (take (length ys - i) (drop i ys)))
+      → SharedPrefix i xs ys
+      → SharedPrefix n (reverse (take (length xs - i) (drop i xs))) (reverse (take (length ys - i) (drop i ys)))
       → dirt (under m xs) (under m ys) rect
       ≡ dirt_between (under m (take (length (take (length xs - i) (drop i xs)) - n) (take (length xs - i) (drop i xs)))) (under m (take (length (take (length ys - i) (drop i ys)) - n) (take (length ys - i) (drop i ys)))) rect
   dirt_under xs ys i n rect h k e f =

@@ -1,6 +1,6 @@
 -- Rows of tiles that get a primitive.
 use Rattle.std.proofs.Common.{◌≡◌, ◌⊎◌, inl, inr, ℕ, ◌+◌, ◌*◌, ◌-◌, ◌<◌, ◌≤◌, List, refl, ap, ◌∙◌, subst, arith}
-use Rattle.tile_records.specs.Passing.{State, Sound, Drawn, Block, drawn, tile_of}
+use Rattle.tile_records.specs.Passing.{State, IsSoundPass, HasDrawn, HasDrawnBlock, drawn, tile_of}
 use Rattle.tile_records.proofs.Enters.{below_or, low_or}
 
 -- a row ends before the next begins
@@ -10,7 +10,7 @@ apart_by k r n = grind arith
 pub apart : (r s n : ℕ) → r < s → r * n + n ≤ s * n
 apart r s n h = let e : r + 1 + (s - (r + 1)) ≡ s = omega (arith, h) in subst (λ (m : ℕ). r * n + n ≤ m * n) e (apart_by (s - (r + 1)) r n)
 
-pub block_none : (columns left right top n : ℕ) (s : State) → Sound s → Block columns left right top top n s s
+pub block_none : (columns left right top n : ℕ) (s : State) → IsSoundPass s → HasDrawnBlock columns left right top top n s s
 block_none columns left right top n s h = record {
   hit = λ c r a b x y. let bad : ⊥ = omega (arith, x, y) in absurd bad;
   beside_left = λ c r a. refl;
@@ -23,12 +23,12 @@ block_none columns left right top n s h = record {
 }
 
 -- a tile in another row, or beside the columns
-other_row : (columns left right row n : ℕ) (mid new : State) → left ≤ right → right ≤ columns → Drawn (row * columns + left) (row * columns + right) n mid new
+other_row : (columns left right row n : ℕ) (mid new : State) → left ≤ right → right ≤ columns → HasDrawn (row * columns + left) (row * columns + right) n mid new
     → (c r : ℕ) → c < columns → (r < row) ⊎ (row < r) → tile_of new (r * columns + c) ≡ tile_of mid (r * columns + c)
 other_row columns left right row n mid new o p d c r h (inl x) = let a = apart r row columns x in d.below (r * columns + c) (omega (arith, a, h))
 other_row columns left right row n mid new o p d c r h (inr x) = let a = apart row r columns x in d.above (r * columns + c) (omega (arith, a, p))
 
-beside : (columns left right row n : ℕ) (mid new : State) → left ≤ right → right ≤ columns → Drawn (row * columns + left) (row * columns + right) n mid new
+beside : (columns left right row n : ℕ) (mid new : State) → left ≤ right → right ≤ columns → HasDrawn (row * columns + left) (row * columns + right) n mid new
     → (c r : ℕ) → c < columns → (c < left) ⊎ (right ≤ c) → tile_of new (r * columns + c) ≡ tile_of mid (r * columns + c)
 beside columns left right row n mid new o p d c r h side = elim (low_or r row) [
   | inl x ↦ other_row columns left right row n mid new o p d c r h (inl x)
@@ -45,7 +45,7 @@ beside columns left right row n mid new o p d c r h side = elim (low_or r row) [
 ]
 
 pub block_more : (columns left right top row n : ℕ) (old mid new : State) → left ≤ right → right ≤ columns → top ≤ row
-    → Block columns left right top row n old mid → Drawn (row * columns + left) (row * columns + right) n mid new → Block columns left right top (row + 1) n old new
+    → HasDrawnBlock columns left right top row n old mid → HasDrawn (row * columns + left) (row * columns + right) n mid new → HasDrawnBlock columns left right top (row + 1) n old new
 block_more columns left right top row n old mid new o p q b d = record {
   hit = λ c r u v x y. elim (below_or r row y) [
     | inl z ↦ other_row columns left right row n mid new o p d c r (omega (arith, v, p)) (inl z) ∙ b.hit c r u v x z

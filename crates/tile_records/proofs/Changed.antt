@@ -4,8 +4,8 @@ use Rattle.std.proofs.lemmas.List.{reverse-append, reverse-reverse, drop-append-
 use Rattle.primitives.specs.PrimitiveModel.{PrimitiveModel}
 use Rattle.primitives.specs.declared.entry.Entry.{Entry}
 use Rattle.primitives.specs.declared.entry.Entry.TheVariants as entry
-use Rattle.tile_records.specs.Picks.{picked_behind}
-use Rattle.tile_records.specs.Passing.{Entered, drawn, promised}
+use Rattle.tile_records.specs.Picks.{picked_after}
+use Rattle.tile_records.specs.Passing.{TileState, drawn, promised}
 
 -- a group more waits, as the innermost
 waits : (os : List ℕ) (e o : ℕ) → e ≤ length os → reverse (drop e (os ++ (o ∷ []))) ≡ o ∷ reverse (drop e os)
@@ -21,30 +21,30 @@ draw_hit list waiting rest n =
     ∙ sym (append_assoc list (waiting ++ (n ∷ [])) rest ∙ ap (λ (l : List ℕ). list ++ l) (append_assoc waiting (n ∷ []) rest))
 
 module _ (hits : PrimitiveModel → Bool) (os : List ℕ) (es : List Entry) (x : ℕ) (xs : List ℕ) where
-  pub push_step : (t : Entered) (o : ℕ) (m : _) (c : _) → t.depth ≤ length os
+  pub push_step : (t : TileState) (o : ℕ) (m : _) (c : _) → t.depth ≤ length os
       → promised hits os t (entry.Push o m c ∷ es) (x ∷ xs) ≡ promised hits (os ++ (x ∷ [])) t es xs
-  push_step t o m c h = sym (ap (λ (w : List ℕ). t.list ++ picked_behind hits w es xs) (waits os t.depth x h))
+  push_step t o m c h = sym (ap (λ (w : List ℕ). t.list ++ picked_after hits w es xs) (waits os t.depth x h))
 
-  draw_by : (t : Entered) (b : Bool)
-      → t.list ++ (if b then reverse (reverse (drop t.depth os)) ++ (x ∷ picked_behind hits [] es xs) else picked_behind hits (reverse (drop t.depth os)) es xs)
+  draw_by : (t : TileState) (b : Bool)
+      → t.list ++ (if b then reverse (reverse (drop t.depth os)) ++ (x ∷ picked_after hits [] es xs) else picked_after hits (reverse (drop t.depth os)) es xs)
       ≡ promised hits os (if b then drawn os x t else t) es xs
   draw_by t true =
-      draw_hit t.list (drop t.depth os) (picked_behind hits [] es xs) x
-      ∙ sym (ap (λ (w : List ℕ). (t.list ++ (drop t.depth os ++ (x ∷ []))) ++ picked_behind hits w es xs) (none_waits os (length os) (omega arith)))
+      draw_hit t.list (drop t.depth os) (picked_after hits [] es xs) x
+      ∙ sym (ap (λ (w : List ℕ). (t.list ++ (drop t.depth os ++ (x ∷ []))) ++ picked_after hits w es xs) (none_waits os (length os) (omega arith)))
   draw_by t false = refl
 
-  pub draw_step : (t : Entered) (p : PrimitiveModel)
+  pub draw_step : (t : TileState) (p : PrimitiveModel)
       → promised hits os t (entry.Primitive p ∷ es) (x ∷ xs) ≡ promised hits os (if hits p then drawn os x t else t) es xs
   draw_step t p = draw_by t (hits p)
 
   -- the tile has the group that ends
   pub pop_there : (o : ℕ) (list : List ℕ) (e : ℕ) → e ≡ length os + 1
-      → list ++ picked_behind hits (reverse (drop e (os ++ (o ∷ [])))) (entry.Pop ∷ es) (x ∷ xs) ≡ (list ++ (x ∷ [])) ++ picked_behind hits (reverse (drop (e - 1) os)) es xs
+      → list ++ picked_after hits (reverse (drop e (os ++ (o ∷ [])))) (entry.Pop ∷ es) (x ∷ xs) ≡ (list ++ (x ∷ [])) ++ picked_after hits (reverse (drop (e - 1) os)) es xs
   pop_there o list e h =
-      ap (λ (w : List ℕ). list ++ picked_behind hits w (entry.Pop ∷ es) (x ∷ xs)) (none_waits (os ++ (o ∷ [])) e (let l = length_push os o in omega (arith, l, h)))
-      ∙ sym (ap (λ (w : List ℕ). (list ++ (x ∷ [])) ++ picked_behind hits w es xs) (none_waits os (e - 1) (omega (arith, h))) ∙ append_assoc list (x ∷ []) _)
+      ap (λ (w : List ℕ). list ++ picked_after hits w (entry.Pop ∷ es) (x ∷ xs)) (none_waits (os ++ (o ∷ [])) e (let l = length_push os o in omega (arith, l, h)))
+      ∙ sym (ap (λ (w : List ℕ). (list ++ (x ∷ [])) ++ picked_after hits w es xs) (none_waits os (e - 1) (omega (arith, h))) ∙ append_assoc list (x ∷ []) _)
 
   -- the group still waits for the tile
   pub pop_waiting : (o : ℕ) (list : List ℕ) (e : ℕ) → e ≤ length os
-      → list ++ picked_behind hits (reverse (drop e (os ++ (o ∷ [])))) (entry.Pop ∷ es) (x ∷ xs) ≡ list ++ picked_behind hits (reverse (drop e os)) es xs
-  pop_waiting o list e h = ap (λ (w : List ℕ). list ++ picked_behind hits w (entry.Pop ∷ es) (x ∷ xs)) (waits os e o h)
+      → list ++ picked_after hits (reverse (drop e (os ++ (o ∷ [])))) (entry.Pop ∷ es) (x ∷ xs) ≡ list ++ picked_after hits (reverse (drop e os)) es xs
+  pop_waiting o list e h = ap (λ (w : List ℕ). list ++ picked_after hits w (entry.Pop ∷ es) (x ∷ xs)) (waits os e o h)

@@ -1,10 +1,10 @@
 -- A tile that gets the groups that it lacks and a primitive.
 use Rattle.std.proofs.Common.{◌≡◌, ◌≢◌, ◌⊎◌, inl, inr, ℕ, ◌+◌, ◌<◌, ◌≤◌, List, [], ◌∷◌, ◌++◌, length, get_or, set, drop, Contains, refl, sym, ap, ◌∙◌, subst, append_assoc, arith}
 use Rattle.std.proofs.lemmas.List.{set-set, get_or-set_same, get_or-set_other, length-set, drop_more}
-use Rattle.tile_records.specs.Passing.{Entered, State, Sound, Filled, Drawn, drawn, tile_of}
+use Rattle.tile_records.specs.Passing.{TileState, State, IsSoundPass, HasFilled, HasDrawn, drawn, tile_of}
 use Rattle.tile_records.proofs.Reaches.{set_more, still_known, now_known}
 
-abbrev tile : List ℕ → ℕ → Entered
+abbrev tile : List ℕ → ℕ → TileState
 tile l d = record { list = l; depth = d }
 
 pub same_tile : (l m : List ℕ) (d e : ℕ) → l ≡ m → d ≡ e → tile l d ≡ tile m e
@@ -53,10 +53,10 @@ set_cases P xs i a d k h here there = elim (at_or k i) [
   | inr n ↦ subst P (sym (get_or-set_other xs i k a d n)) (there n)
 ]
 
-pub enter_law : (old : State) (t n : ℕ) (mid new reached : List (List ℕ)) → Sound old → t < length old.lists
-    → Filled old.groups (get_or old.entered t 0) t old.lists old.reached mid reached
+pub enter_law : (old : State) (t n : ℕ) (mid new reached : List (List ℕ)) → IsSoundPass old → t < length old.lists
+    → HasFilled old.groups (get_or old.entered t 0) t old.lists old.reached mid reached
     → new ≡ set mid t (get_or mid t [] ++ (n ∷ []))
-    → Drawn t (t + 1) n old (record { lists = new; entered = set old.entered t (length old.groups); groups = old.groups; reached = reached })
+    → HasDrawn t (t + 1) n old (record { lists = new; entered = set old.entered t (length old.groups); groups = old.groups; reached = reached })
 enter_law old t n mid new reached s h f e =
     let l : new ≡ set old.lists t (get_or old.lists t [] ++ (drop (get_or old.entered t 0) old.groups ++ (n ∷ []))) = entered_lists old.lists mid new t n (drop (get_or old.entered t 0) old.groups) h f.list e in
     let within : t < length old.entered = subst (λ m. t < m) (sym s.sides) h in
@@ -79,20 +79,20 @@ enter_law old t n mid new reached s h f e =
       };
     }
 
-pub enter_by : (old : State) (t n from d : ℕ) (groups : List ℕ) (mid new reached : List (List ℕ)) → Sound old → t < length old.lists
+pub enter_by : (old : State) (t n from d : ℕ) (groups : List ℕ) (mid new reached : List (List ℕ)) → IsSoundPass old → t < length old.lists
     → groups ≡ old.groups → from ≡ get_or old.entered t 0 → d ≡ length old.groups
-    → Filled groups from t old.lists old.reached mid reached
+    → HasFilled groups from t old.lists old.reached mid reached
     → new ≡ set mid t (get_or mid t [] ++ (n ∷ []))
-    → Drawn t (t + 1) n old (record { lists = new; entered = set old.entered t d; groups = old.groups; reached = reached })
+    → HasDrawn t (t + 1) n old (record { lists = new; entered = set old.entered t d; groups = old.groups; reached = reached })
 enter_by old t n from d groups mid new reached s h p q w f e =
-    subst (λ (m : ℕ). Drawn t (t + 1) n old (record { lists = new; entered = set old.entered t m; groups = old.groups; reached = reached })) (sym w)
+    subst (λ (m : ℕ). HasDrawn t (t + 1) n old (record { lists = new; entered = set old.entered t m; groups = old.groups; reached = reached })) (sym w)
     (enter_law old t n mid new reached s h
-    (subst (λ (m : ℕ). Filled old.groups m t old.lists old.reached mid reached) q (subst (λ (g : List ℕ). Filled g from t old.lists old.reached mid reached) p f)) e)
+    (subst (λ (m : ℕ). HasFilled old.groups m t old.lists old.reached mid reached) q (subst (λ (g : List ℕ). HasFilled g from t old.lists old.reached mid reached) p f)) e)
 
-pub draw_none : (a n : ℕ) (s : State) → Sound s → Drawn a a n s s
+pub draw_none : (a n : ℕ) (s : State) → IsSoundPass s → HasDrawn a a n s s
 draw_none a n s h = record { hit = λ k x y. let bad : ⊥ = omega (arith, x, y) in absurd bad; below = λ k x. refl; above = λ k x. refl; groups = refl; sides = refl; sound = h }
 
-pub draw_more : (a i n : ℕ) (old mid new : State) → a ≤ i → Drawn a i n old mid → Drawn i (i + 1) n mid new → Drawn a (i + 1) n old new
+pub draw_more : (a i n : ℕ) (old mid new : State) → a ≤ i → HasDrawn a i n old mid → HasDrawn i (i + 1) n mid new → HasDrawn a (i + 1) n old new
 draw_more a i n old mid new o d e = record {
   hit = λ k x y. elim (below_or k i y) [
     | inl z ↦ e.below k z ∙ d.hit k x z

@@ -18,7 +18,7 @@ use Rattle.tile_records.specs.Interning.{Interning, AreHeld, entry_of, entry_at,
 use Rattle.tile_records.specs.Counts.{times, raised_all, raised_records, swept_all, IsAcquired, Moves}
 use Rattle.tile_records.specs.Making.{IsFound, NotesFound, ForgetsFound, IsGrown, Extends, AreInterned, AreRecordsOf, unused}
 use Rattle.tile_records.specs.Passing.{joined, keys_of_records}
-use Rattle.tile_records.specs.Picks.{picked_behind, picked, shows_in}
+use Rattle.tile_records.specs.Picks.{picked_after, picked, shows_in}
 use Rattle.tile_records.specs.Tiles.{columns_of, rows_of, rect_at}
 use Rattle.tile_records.proofs.Acquiring.{grown_more, inserted_extends, held_where}
 use Rattle.tile_records.proofs.Claims.{acquired_moves}
@@ -87,10 +87,10 @@ interned_more m n ids more id es e h noted stands ext =
 
 -- ---- what is picked of ids stands for what is picked of entries
 
-pub picked_interned : (m : Interning) (ks : List ℕ) (es : List Entry) (rect : _) → AreInterned m ks es → AreInterned m (picked_behind (shows_in rect) [] es ks) (picked rect es)
+pub picked_interned : (m : Interning) (ks : List ℕ) (es : List Entry) (rect : _) → AreInterned m ks es → AreInterned m (picked_after (shows_in rect) [] es ks) (picked rect es)
 picked_interned m ks es rect h =
     pick_mapped (entry_at m) (shows_in rect) [] es ks
-    ∙ ap (picked_behind (shows_in rect) [] es) h
+    ∙ ap (picked_after (shows_in rect) [] es) h
     ∙ sym (pick_mapped (λ (e : Entry). Some e) (shows_in rect) [] es es)
 
 pub interned_length : (m : Interning) (ks : List ℕ) (es : List Entry) → AreInterned m ks es → length ks ≡ length es
@@ -101,13 +101,13 @@ interned_length m (k ∷ ks) (e ∷ es) h = let later : AreInterned m ks es = cc
 
 -- ---- ids that a list names
 
-named_first : (k : ℕ) (ks : List ℕ) → 0 < times k (k ∷ ks)
+pub named_first : (k : ℕ) (ks : List ℕ) → 0 < times k (k ∷ ks)
 named_first k ks = let e = eq_same k k refl in rw e (omega arith)
 
-named_later : (q k : ℕ) (ks : List ℕ) → 0 < times q ks → 0 < times q (k ∷ ks)
+pub named_later : (q k : ℕ) (ks : List ℕ) → 0 < times q ks → 0 < times q (k ∷ ks)
 named_later q k ks h = omega (arith, h)
 
-by_named : {P : Type 0} (q k : ℕ) (ks : List ℕ) (b : Bool) → eq_by_cmp nat_cmp q k ≡ b → 0 < times q (k ∷ ks) → (q ≡ k → P) → (0 < times q ks → P) → P
+pub by_named : {P : Type 0} (q k : ℕ) (ks : List ℕ) (b : Bool) → eq_by_cmp nat_cmp q k ≡ b → 0 < times q (k ∷ ks) → (q ≡ k → P) → (0 < times q ks → P) → P
 by_named q k ks true e h f g = f (same_eq q k e)
 by_named q k ks false e h f g = g (let r : 0 < cond false 1 0 + times q ks = rw e at h in omega (arith, r))
 
@@ -157,7 +157,7 @@ module _ (over : Tiles) (es : List Entry) where
 
   -- records by column and row
   pub records_from : (m : Interning) (ks : List ℕ) (rs : List (List ℕ)) → AreInterned m ks es → length rs ≡ rows_of over * columns_of over
-      → ((c r : ℕ) → c < columns_of over → r < rows_of over → get_or rs (r * columns_of over + c) [] ≡ picked_behind (shows_in (rect_at over c r)) [] es ks) → AreRecordsOf m over rs es
+      → ((c r : ℕ) → c < columns_of over → r < rows_of over → get_or rs (r * columns_of over + c) [] ≡ picked_after (shows_in (rect_at over c r)) [] es ks) → AreRecordsOf m over rs es
   records_from m ks rs h count f = record {
     count = count;
     entries = λ i w.
@@ -195,7 +195,7 @@ entries_are m (k ∷ ks) (e ∷ es) h =
     let later : AreInterned m ks es = cc in
     rw first (ap (λ (l : List Entry). e ∷ l) (entries_are m ks es later))
 
-all_held : (m : Interning) (ks : List ℕ) → ((q : ℕ) → 0 < times q ks → IsSome (get m q)) → AreHeld m ks
+pub all_held : (m : Interning) (ks : List ℕ) → ((q : ℕ) → 0 < times q ks → IsSome (get m q)) → AreHeld m ks
 all_held m [] f = All-nil (λ (k : ℕ). IsSome (get m k))
 all_held m (k ∷ ks) f = All-cons (λ (j : ℕ). IsSome (get m j)) k ks (f k (named_first k ks)) (all_held m ks (λ q h. f q (named_later q k ks h)))
 

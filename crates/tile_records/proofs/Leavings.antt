@@ -2,31 +2,31 @@
 use Rattle.std.proofs.Common.{◌≡◌, ◌≢◌, ◌⊎◌, inl, inr, ℕ, zero, suc, ◌+◌, ◌-◌, ◌<◌, ◌≤◌, ◌==◌, Bool, true, false, List, [], ◌∷◌, ◌++◌, length, get_or, drop, if◌then◌else◌, Contains, refl, sym, ap, ◌∙◌, subst, true≢false, arith}
 use Rattle.std.proofs.lemmas.Bool.Decides.{nat_tests}
 use Rattle.std.proofs.lemmas.List.{drop_more, drop_all}
-use Rattle.tile_records.specs.Passing.{Entered, Leaves, tile_among, closed}
+use Rattle.tile_records.specs.Passing.{TileState, Leaves, tile_among, closed}
 use Rattle.tile_records.proofs.Enters.{at_or}
 
-close_by : (d n : ℕ) (t : Entered) (b : Bool) → b ≡ true → (if b then record { list = t.list ++ (n ∷ []); depth = t.depth - 1 } else t) ≡ record { list = t.list ++ (n ∷ []); depth = t.depth - 1 }
+close_by : (d n : ℕ) (t : TileState) (b : Bool) → b ≡ true → (if b then record { list = t.list ++ (n ∷ []); depth = t.depth - 1 } else t) ≡ record { list = t.list ++ (n ∷ []); depth = t.depth - 1 }
 close_by d n t true e = refl
 close_by d n t false e = absurd (true≢false (sym e))
 
-skip_by : (d n : ℕ) (t : Entered) (b : Bool) → b ≡ false → (if b then record { list = t.list ++ (n ∷ []); depth = t.depth - 1 } else t) ≡ t
+skip_by : (d n : ℕ) (t : TileState) (b : Bool) → b ≡ false → (if b then record { list = t.list ++ (n ∷ []); depth = t.depth - 1 } else t) ≡ t
 skip_by d n t false e = refl
 skip_by d n t true e = absurd (true≢false e)
 
 -- where a tile has the group, and where it hasn't
-pub close_there : (d n : ℕ) (t : Entered) → t.depth ≡ d → closed d n t ≡ record { list = t.list ++ (n ∷ []); depth = t.depth - 1 }
+pub close_there : (d n : ℕ) (t : TileState) → t.depth ≡ d → closed d n t ≡ record { list = t.list ++ (n ∷ []); depth = t.depth - 1 }
 close_there d n t e = let b : (t.depth == d) ≡ true = grind (arith, nat_tests) in close_by d n t (t.depth == d) b
 
-pub close_not : (d n : ℕ) (t : Entered) → t.depth ≢ d → closed d n t ≡ t
+pub close_not : (d n : ℕ) (t : TileState) → t.depth ≢ d → closed d n t ≡ t
 close_not d n t e = let b : (t.depth == d) ≡ false = grind (arith, nat_tests) in skip_by d n t (t.depth == d) b
 
-pub not_after : (d n : ℕ) (t : Entered) → 0 < d → (closed d n t).depth ≢ d
+pub not_after : (d n : ℕ) (t : TileState) → 0 < d → (closed d n t).depth ≢ d
 not_after d n t h = elim (at_or t.depth d) [
-  | inl e ↦ λ same. let x : t.depth - 1 ≡ d = sym (ap (λ (u : Entered). u.depth) (close_there d n t e)) ∙ same in omega (arith, x, e, h)
-  | inr e ↦ λ same. e (sym (ap (λ (u : Entered). u.depth) (close_not d n t e)) ∙ same)
+  | inl e ↦ λ same. let x : t.depth - 1 ≡ d = sym (ap (λ (u : TileState). u.depth) (close_there d n t e)) ∙ same in omega (arith, x, e, h)
+  | inr e ↦ λ same. e (sym (ap (λ (u : TileState). u.depth) (close_not d n t e)) ∙ same)
 ]
 
-pub close_twice : (d n : ℕ) (t : Entered) → 0 < d → closed d n (closed d n t) ≡ closed d n t
+pub close_twice : (d n : ℕ) (t : TileState) → 0 < d → closed d n (closed d n t) ≡ closed d n t
 close_twice d n t h = close_not d n (closed d n t) (not_after d n t h)
 
 head_or : (x y : ℕ) (xs : List ℕ) → Contains (x ∷ xs) y → (x ≡ y) ⊎ Contains xs y
@@ -46,9 +46,9 @@ pub leave_known : (d n : ℕ) (t : ℕ) (ls ms : List (List ℕ)) (es fs : List 
     → ((k : ℕ) → get_or es k 0 ≡ d → Contains (drop i xs) k)
     → (k : ℕ) → get_or fs k 0 ≡ d → Contains (drop (i + 1) xs) k
 leave_known d n t ls ms es fs xs i h w r l old k e = elim (at_or k t) [
-  | inl same ↦ absurd (not_after d n (tile_among ls es t) h (sym (ap (λ (u : Entered). u.depth) l.here) ∙ ap (λ (j : ℕ). get_or fs j 0) (sym same) ∙ e))
+  | inl same ↦ absurd (not_after d n (tile_among ls es t) h (sym (ap (λ (u : TileState). u.depth) l.here) ∙ ap (λ (j : ℕ). get_or fs j 0) (sym same) ∙ e))
   | inr other ↦
-      elim (head_or (get_or xs i 0) k (drop (i + 1) xs) (subst (λ (ys : List ℕ). Contains ys k) (drop_more xs i 0 w) (old k (sym (ap (λ (u : Entered). u.depth) (l.there k other)) ∙ e)))) [
+      elim (head_or (get_or xs i 0) k (drop (i + 1) xs) (subst (λ (ys : List ℕ). Contains ys k) (drop_more xs i 0 w) (old k (sym (ap (λ (u : TileState). u.depth) (l.there k other)) ∙ e)))) [
         | inl at ↦ absurd (other (sym (r ∙ at)))
         | inr on ↦ on
       ]

@@ -20,6 +20,7 @@ pub mod Picking
 pub mod Reaches
 pub mod Recounts
 pub mod Stale
+pub mod Stays
 pub mod Tied
 pub mod Unders
 pub mod Views

@@ -6,9 +6,9 @@ use Rattle.primitives.specs.Stacks.{balanced}
 use Rattle.primitives.specs.declared.entry.Entry.{Entry}
 use Rattle.primitives.specs.declared.entry.Entry.TheVariants as entry
 use Rattle.tile_records.specs.declared.tiles.Tiles.{Tiles}
-use Rattle.tile_records.specs.Picks.{picked_behind, shows_in}
+use Rattle.tile_records.specs.Picks.{picked_after, shows_in}
 use Rattle.tile_records.specs.Tiles.{columns_of, rows_of, rect_at}
-use Rattle.tile_records.specs.Passing.{Entered, State, Takes, Fresh, Passed, promised, closed, tile_of}
+use Rattle.tile_records.specs.Passing.{TileState, State, Takes, IsFresh, HasPassed, promised, closed, tile_of}
 use Rattle.tile_records.proofs.Changed.{push_step, draw_step, pop_there, pop_waiting}
 use Rattle.tile_records.proofs.Enters.{at_or}
 use Rattle.tile_records.proofs.Leavings.{close_there, close_not}
@@ -17,22 +17,22 @@ pub pop_open : (m : ℕ) (es : List Entry) → IsTrue (balanced m (entry.Pop ∷
 pop_open zero es h = absurd (true≢false (sym h))
 pop_open (suc m) es h = omega arith
 
-pop_step : (hits : PrimitiveModel → Bool) (os : List ℕ) (o : ℕ) (t : Entered) (es : List Entry) (x : ℕ) (xs : List ℕ) (d : ℕ) → d ≡ length os + 1 → t.depth ≤ d
+pop_step : (hits : PrimitiveModel → Bool) (os : List ℕ) (o : ℕ) (t : TileState) (es : List Entry) (x : ℕ) (xs : List ℕ) (d : ℕ) → d ≡ length os + 1 → t.depth ≤ d
     → promised hits (os ++ (o ∷ [])) t (entry.Pop ∷ es) (x ∷ xs) ≡ promised hits os (closed d x t) es xs
 pop_step hits os o t es x xs d e h = elim (at_or t.depth d) [
-  | inl i ↦ pop_there hits os es x xs o t.list t.depth (i ∙ e) ∙ sym (ap (λ (u : Entered). promised hits os u es xs) (close_there d x t i))
-  | inr i ↦ pop_waiting hits os es x xs o t.list t.depth (omega (arith, i, h, e)) ∙ sym (ap (λ (u : Entered). promised hits os u es xs) (close_not d x t i))
+  | inl i ↦ pop_there hits os es x xs o t.list t.depth (i ∙ e) ∙ sym (ap (λ (u : TileState). promised hits os u es xs) (close_there d x t i))
+  | inr i ↦ pop_waiting hits os es x xs o t.list t.depth (omega (arith, i, h, e)) ∙ sym (ap (λ (u : TileState). promised hits os u es xs) (close_not d x t i))
 ]
 
 -- the same groups and the same tile
-same_promise : (hits : PrimitiveModel → Bool) (os ps : List ℕ) (t u : Entered) (es : List Entry) (xs : List ℕ) → os ≡ ps → t ≡ u → promised hits os t es xs ≡ promised hits ps u es xs
-same_promise hits os ps t u es xs e f = ap (λ (g : List ℕ). promised hits g t es xs) e ∙ ap (λ (v : Entered). promised hits ps v es xs) f
+same_promise : (hits : PrimitiveModel → Bool) (os ps : List ℕ) (t u : TileState) (es : List Entry) (xs : List ℕ) → os ≡ ps → t ≡ u → promised hits os t es xs ≡ promised hits ps u es xs
+same_promise hits os ps t u es xs e f = ap (λ (g : List ℕ). promised hits g t es xs) e ∙ ap (λ (v : TileState). promised hits ps v es xs) f
 
 module _ (over : Tiles) (all : List Entry) (ids : List ℕ) where
   abbrev hits : ℕ → ℕ → PrimitiveModel → Bool
   hits c r = shows_in (rect_at over c r)
 
-  pub pass_step : (e : Entry) (es : List Entry) (x : ℕ) (xs : List ℕ) (old new : State) → Passed over (e ∷ es) all (x ∷ xs) ids old → Takes over e x old new → Passed over es all xs ids new
+  pub pass_step : (e : Entry) (es : List Entry) (x : ℕ) (xs : List ℕ) (old new : State) → HasPassed over (e ∷ es) all (x ∷ xs) ids old → Takes over e x old new → HasPassed over es all xs ids new
   pass_step (entry.Primitive p) es x xs old new q t = record {
     sound = t.sound;
     sides = t.sides ∙ q.sides;
@@ -84,7 +84,7 @@ module _ (over : Tiles) (all : List Entry) (ids : List ℕ) where
   none_at (suc n) zero = refl
   none_at (suc n) (suc k) = none_at n k
 
-  pub pass_start : (s : State) → IsTrue (balanced 0 all) → Fresh (rows_of over * columns_of over) s → Passed over all all ids ids s
+  pub pass_start : (s : State) → IsTrue (balanced 0 all) → IsFresh (rows_of over * columns_of over) s → HasPassed over all all ids ids s
   pass_start s b f =
       let n = rows_of over * columns_of over in
       let entered : (k : ℕ) → get_or s.entered k 0 ≡ 0 = (λ k. ap (λ (l : List ℕ). get_or l k 0) f.entered ∙ zero_at n k) in
@@ -99,10 +99,10 @@ module _ (over : Tiles) (all : List Entry) (ids : List ℕ) where
         rest = subst (λ (g : List ℕ). IsTrue (balanced (length g) all)) (sym f.groups) b;
         told = λ c r h k.
             ap (λ (g : List ℕ). promised (hits c r) g (tile_of s (r * columns_of over + c)) all ids) f.groups
-            ∙ ap (λ (l : List ℕ). l ++ picked_behind (hits c r) (reverse (drop (get_or s.entered (r * columns_of over + c) 0) [])) all ids) (ap (λ (ls : List (List ℕ)). get_or ls (r * columns_of over + c) []) f.lists ∙ none_at n (r * columns_of over + c))
-            ∙ ap (λ (m : ℕ). picked_behind (hits c r) (reverse (drop m [])) all ids) (entered (r * columns_of over + c));
+            ∙ ap (λ (l : List ℕ). l ++ picked_after (hits c r) (reverse (drop (get_or s.entered (r * columns_of over + c) 0) [])) all ids) (ap (λ (ls : List (List ℕ)). get_or ls (r * columns_of over + c) []) f.lists ∙ none_at n (r * columns_of over + c))
+            ∙ ap (λ (m : ℕ). picked_after (hits c r) (reverse (drop m [])) all ids) (entered (r * columns_of over + c));
       }
 
-  pub pass_end : (xs : List ℕ) (s : State) → Passed over [] all xs ids s
-      → (c r : ℕ) → c < columns_of over → r < rows_of over → get_or s.lists (r * columns_of over + c) [] ≡ picked_behind (hits c r) [] all ids
+  pub pass_end : (xs : List ℕ) (s : State) → HasPassed over [] all xs ids s
+      → (c r : ℕ) → c < columns_of over → r < rows_of over → get_or s.lists (r * columns_of over + c) [] ≡ picked_after (hits c r) [] all ids
   pass_end xs s p c r h k = sym (append-nil (get_or s.lists (r * columns_of over + c) [])) ∙ p.told c r h k

@@ -16,12 +16,12 @@ use Rattle.primitives.specs.declared.entry.Entry.TheVariants as entry
 use Rattle.primitives.proofs.Runs.{run_keeps_pixels, hidden_leaves_stack, hidden_list_leaves_stack}
 use Rattle.tile_grid.specs.Tiles.{meets}
 use Rattle.tile_grid.proofs.Meetings.{meets_points}
-use Rattle.tile_records.specs.Picks.{shows_in, picked_behind, picked}
+use Rattle.tile_records.specs.Picks.{shows_in, picked_after, picked}
 use Rattle.tile_records.specs.Laws.{PickedHasValues, PickedIsBalanced, PickedIsShallow, PickedAreEntries}
 
 -- of the entries themselves
 abbrev pub pick : (PrimitiveModel → Bool) → List Entry → List Entry → List Entry
-pick hits ws es = picked_behind hits ws es es
+pick hits ws es = picked_after hits ws es es
 
 -- one that waits comes last before the rest
 pub reverse_cons : {A : Type 0} (w : A) (ws xs : List A) → reverse (w ∷ ws) ++ xs ≡ reverse ws ++ (w ∷ xs)
@@ -195,14 +195,14 @@ module _ {A : Type 0} (P : A → Type 0) (hits : PrimitiveModel → Bool) where
   all_by x ws l r true p h j k = all_reversed ws (x ∷ l) h (All-cons P x l p j)
   all_by x ws l r false p h j k = k
 
-  pub pick_all : (ws : List A) (es : List Entry) (xs : List A) → All P ws → All P xs → All P (picked_behind hits ws es xs)
+  pub pick_all : (ws : List A) (es : List Entry) (xs : List A) → All P ws → All P xs → All P (picked_after hits ws es xs)
   pick_all ws [] xs h k = All-nil P
   pick_all ws (e ∷ es) [] h k = All-nil P
   pick_all ws (entry.Primitive p ∷ es) (x ∷ xs) h k =
       let tail = All-tail P x xs k in
-      all_by x ws (picked_behind hits [] es xs) (picked_behind hits ws es xs) (hits p) (All-head P x xs k) h (pick_all [] es xs (All-nil P) tail) (pick_all ws es xs h tail)
+      all_by x ws (picked_after hits [] es xs) (picked_after hits ws es xs) (hits p) (All-head P x xs k) h (pick_all [] es xs (All-nil P) tail) (pick_all ws es xs h tail)
   pick_all ws (entry.Push o m clips ∷ es) (x ∷ xs) h k = pick_all (x ∷ ws) es xs (All-cons P x ws (All-head P x xs k) h) (All-tail P x xs k)
-  pick_all [] (entry.Pop ∷ es) (x ∷ xs) h k = All-cons P x (picked_behind hits [] es xs) (All-head P x xs k) (pick_all [] es xs h (All-tail P x xs k))
+  pick_all [] (entry.Pop ∷ es) (x ∷ xs) h k = All-cons P x (picked_after hits [] es xs) (All-head P x xs k) (pick_all [] es xs h (All-tail P x xs k))
   pick_all (w ∷ ws) (entry.Pop ∷ es) (x ∷ xs) h k = pick_all ws es xs (All-tail P w ws h) (All-tail P x xs k)
 
 pub picked_are_entries : PickedAreEntries
@@ -219,10 +219,10 @@ module _ {A B : Type 0} (f : A → B) (hits : PrimitiveModel → Bool) where
   map_by x ws l r m n true e g = map_reversed ws (x ∷ l) ∙ ap (λ (k : List B). reverse (map f ws) ++ (f x ∷ k)) e
   map_by x ws l r m n false e g = g
 
-  pub pick_mapped : (ws : List A) (es : List Entry) (xs : List A) → map f (picked_behind hits ws es xs) ≡ picked_behind hits (map f ws) es (map f xs)
+  pub pick_mapped : (ws : List A) (es : List Entry) (xs : List A) → map f (picked_after hits ws es xs) ≡ picked_after hits (map f ws) es (map f xs)
   pick_mapped ws [] xs = refl
   pick_mapped ws (e ∷ es) [] = refl
-  pick_mapped ws (entry.Primitive p ∷ es) (x ∷ xs) = map_by x ws (picked_behind hits [] es xs) (picked_behind hits ws es xs) _ _ (hits p) (pick_mapped [] es xs) (pick_mapped ws es xs)
+  pick_mapped ws (entry.Primitive p ∷ es) (x ∷ xs) = map_by x ws (picked_after hits [] es xs) (picked_after hits ws es xs) _ _ (hits p) (pick_mapped [] es xs) (pick_mapped ws es xs)
   pick_mapped ws (entry.Push o m clips ∷ es) (x ∷ xs) = pick_mapped (x ∷ ws) es xs
   pick_mapped [] (entry.Pop ∷ es) (x ∷ xs) = ap (λ (l : List B). f x ∷ l) (pick_mapped [] es xs)
   pick_mapped (w ∷ ws) (entry.Pop ∷ es) (x ∷ xs) = pick_mapped ws es xs

@@ -12,7 +12,7 @@ use Rattle.primitives.specs.declared.entry.Entry.TheVariants as entry
 use Rattle.tile_records.specs.declared.id.Id.{Id}
 use Rattle.tile_records.specs.declared.slots.Held.{Held}
 use Rattle.tile_records.specs.Interning.{Interning, AreHeld, IsDistinct, entry_of, entry_at, entries_under, ids_keys}
-use Rattle.tile_records.specs.Dirt.{Pair, same_entry, same_id, no_id, rests, reversed, fronts, middles, extent_from, dirt_between, dirt, depth_after, extended, SharedFront}
+use Rattle.tile_records.specs.Dirt.{Pair, same_entry, same_id, no_id, rests, reversed, fronts, middles, extent_from, dirt_between, dirt, depth_after, extended, SharedPrefix}
 
 -- the entries of ids
 abbrev pub under : Interning → List Id → List Entry

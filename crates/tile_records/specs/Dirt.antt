@@ -85,5 +85,5 @@ abbrev pub no_id : Id
 no_id = record { key = 0 }
 
 -- two lists have their first n ids in common, and no more
-abbrev pub SharedFront : ℕ → List Id → List Id → Type 0
-SharedFront n xs ys = rests same_id xs ys ≡ record { old = drop n xs; new = drop n ys }
+abbrev pub SharedPrefix : ℕ → List Id → List Id → Type 0
+SharedPrefix n xs ys = rests same_id xs ys ≡ record { old = drop n xs; new = drop n ys }

@@ -10,8 +10,8 @@ use Rattle.primitives.specs.PrimitiveModel.{PrimitiveModel}
 use Rattle.primitives.specs.Stacks.{IsRow, balanced, is_shallow, value_at}
 use Rattle.primitives.specs.declared.entry.Entry.{Entry}
 use Rattle.primitives.specs.declared.entry.Entry.TheVariants as entry
-use Rattle.tile_records.specs.Interning.{Interning}
-use Rattle.tile_records.specs.Counts.{IsAcquired, Moves}
+use Rattle.tile_records.specs.Interning.{Interning, AreHeld, entries_under}
+use Rattle.tile_records.specs.Counts.{IsAcquired, Covers, Moves}
 use Rattle.tile_records.specs.Picks.{shows_in, picked}
 use Rattle.tile_records.specs.Dirt.{dirt, extent, extent_from}
 use Rattle.tile_records.specs.Right.{IsCurrentAt, IsRight}
@@ -89,3 +89,20 @@ AcquiredInParts = (a b c : Interning) (xs ys : List ℕ) → IsAcquired a b xs �
 -- one move after another is a move
 abbrev pub MovesInParts : Type 0
 MovesInParts = (a b c : Interning) (from mid to : List ℕ) → Moves a b from mid → Moves b c mid to → Moves a c from to
+
+-- ids are still held, with their entries
+pub record StayHeld (old new : Interning) (ids : List ℕ) : Type 0 where
+  pub held : AreHeld new ids
+  pub entries : entries_under new ids ≡ entries_under old ids
+
+-- whatever is held more often, ids that are held stay
+abbrev pub HeldStay : Type 0
+HeldStay = (old new : Interning) (more ids : List ℕ) → IsAcquired old new more → AreHeld old ids → StayHeld old new ids
+
+-- what others claim stays
+abbrev pub ClaimedStay : Type 0
+ClaimedStay = (old new : Interning) (from to claims : List ℕ) → Moves old new from to → Covers old (from ++ claims) → StayHeld old new claims
+
+-- ids that are claimed are held
+abbrev pub CoveredAreHeld : Type 0
+CoveredAreHeld = (m : Interning) (claims : List ℕ) → Covers m claims → AreHeld m claims

@@ -4,8 +4,9 @@ ghost use Rattle.std.specs.Prelude.{◌≡◌, ◌≤◌, ◌<◌, ◌^◌, leng
 ghost use Rattle.primitives.specs.Stacks.{balanced};
 ghost use Rattle.wr_geom.specs.Bounds.{nowhere};
 ghost use Rattle.tile_records.specs.Interning.{AreHeld, entry_at, entries_under, ids_keys, record_keys};
-ghost use Rattle.tile_records.specs.Dirt.{no_id, same_id, SharedFront, depth_after, extended, extent_from, dirt_between, dirt};
+ghost use Rattle.tile_records.specs.Dirt.{no_id, same_id, SharedPrefix, depth_after, extended, extent_from, dirt_between, dirt};
 
+use crate::balance::depth_after;
 use crate::{Id, Interner, TileRecord, know_interner};
 use primitives::{Entry, entry_order_laws, visible};
 use wr_geom::Rect;
@@ -19,11 +20,11 @@ fn same_at(old: &[Id], i: usize, new: &[Id], j: usize) -> bool
     old[i].key == new[j].key
 }
 
-/// How many ids two lists have in common at the front.
-fn common_front(old: &[Id], new: &[Id]) -> usize
+/// How many ids two lists begin with in common.
+fn common_prefix(old: &[Id], new: &[Id]) -> usize
     ensures old { result ≤ length old.now }
     ensures new { result ≤ length new.now }
-    ensures longest { SharedFront result old.now new.now }
+    ensures longest { SharedPrefix result old.now new.now }
 {
     for i in 0..old.len().min(new.len()) {
         if !same_at(old, i, new, i) {
@@ -33,11 +34,11 @@ fn common_front(old: &[Id], new: &[Id]) -> usize
     old.len().min(new.len())
 }
 
-/// How many ids two lists have in common at the end.
-fn common_back(old: &[Id], new: &[Id]) -> usize
+/// How many ids two lists end with in common.
+fn common_suffix(old: &[Id], new: &[Id]) -> usize
     ensures old { result ≤ length old.now }
     ensures new { result ≤ length new.now }
-    ensures longest { SharedFront result (reverse old.now) (reverse new.now) }
+    ensures longest { SharedPrefix result (reverse old.now) (reverse new.now) }
 {
     for i in 0..old.len().min(new.len()) {
         if !same_at(old, old.len() - 1 - i, new, new.len() - 1 - i) {
@@ -48,25 +49,23 @@ fn common_back(old: &[Id], new: &[Id]) -> usize
 }
 
 /// How many groups are open after the entry of an id, and none where it ends a group that isn't open.
-fn depth_after(interner: &Interner, id: Id, depth: usize) -> Option<usize>
+fn depth_after_id(interner: &Interner, id: Id, depth: usize) -> Option<usize>
     requires { depth < 2 ^ 63 }
     ensures { result ≡ depth_after (entry_at interner.now id.key) depth }
 {
     match interner.get(id) {
-        Some(Entry::Push { .. }) => Some(depth + 1),
-        Some(Entry::Pop) => depth.checked_sub(1),
-        Some(Entry::Primitive(_)) => Some(depth),
+        Some(entry) => depth_after(entry, depth),
         None => Some(depth),
     }
 }
 
-/// Whether each group is ended, and no other.
-fn is_balanced(interner: &Interner, ids: &[Id]) -> bool
+/// Whether the entries of ids are primitives and whole groups.
+fn are_balanced(interner: &Interner, ids: &[Id]) -> bool
     ensures { result ≡ balanced 0 (entries_under interner.now (ids_keys ids.now)) }
 {
     let mut depth: usize = 0;
     for id in ids {
-        match depth_after(interner, *id, depth) {
+        match depth_after_id(interner, *id, depth) {
             Some(next) => depth = next,
             None => return false,
         }
@@ -108,7 +107,7 @@ fn nowhere() -> Rect
 fn dirty_between(interner: &Interner, old: &[Id], new: &[Id], rect: Rect) -> Rect
     ensures { result ≡ dirt_between (entries_under interner.now (ids_keys old.now)) (entries_under interner.now (ids_keys new.now)) rect }
 {
-    if is_balanced(interner, old) && is_balanced(interner, new) {
+    if are_balanced(interner, old) && are_balanced(interner, new) {
         let all = extent(nowhere(), interner, old);
         return extent(all, interner, new).intersect(rect);
     }
@@ -117,9 +116,9 @@ fn dirty_between(interner: &Interner, old: &[Id], new: &[Id], rect: Rect) -> Rec
 
 /// Where a tile with this rectangle, drawn from the old record, has to be drawn again for the new one.
 ///
-/// What both records have in common at the front is left off, and then at the end. Where what is left of both is balanced
-/// in groups, it is the bound of the visible rectangles of all primitives in both, cut to the tile, and else the whole
-/// tile. Nothing outside of it changes. The ids of both records must be held. It takes no memory.
+/// What both records begin with in common is left off, and then what they end with. Where what is left of each is made of
+/// whole groups, the dirt is the bound of the visible rectangles of all primitives in both, cut to the tile, and else the
+/// whole tile. Nothing outside of it changes. The ids of both records must be held. It takes no memory.
 pub fn dirty(interner: &Interner, old: &TileRecord, new: &TileRecord, rect: Rect) -> Rect
     requires old { AreHeld interner.now (record_keys old.now) }
     requires new { AreHeld interner.now (record_keys new.now) }
@@ -128,7 +127,7 @@ pub fn dirty(interner: &Interner, old: &TileRecord, new: &TileRecord, rect: Rect
     between(interner, old.ids.as_slice(), new.ids.as_slice(), rect)
 }
 
-/// The same of two lists of ids.
+/// The dirt of two lists of ids.
 fn between(interner: &Interner, old: &[Id], new: &[Id], rect: Rect) -> Rect
     requires old { AreHeld interner.now (ids_keys old.now) }
     requires new { AreHeld interner.now (ids_keys new.now) }
@@ -136,11 +135,11 @@ fn between(interner: &Interner, old: &[Id], new: &[Id], rect: Rect) -> Rect
 {
     entry_order_laws();
     know_interner(interner);
-    let front = common_front(old, new);
-    let old = &old[front..];
-    let new = &new[front..];
-    let back = common_back(old, new);
-    let old = &old[..old.len() - back];
-    let new = &new[..new.len() - back];
+    let prefix = common_prefix(old, new);
+    let old = &old[prefix..];
+    let new = &new[prefix..];
+    let suffix = common_suffix(old, new);
+    let old = &old[..old.len() - suffix];
+    let new = &new[..new.len() - suffix];
     dirty_between(interner, old, new, rect)
 }

@@ -83,7 +83,7 @@ impl Interner {
         }
     }
 
-    /// The id of an entry that is held.
+    /// The id of an entry, if it is held.
     fn find(&self, entry: &Entry) -> Option<Id>
         ensures found { IfSome result (λ id. entry_at self.now id.key ≡ Some entry.now) }
         ensures absent { IfNone result ((k : ℕ) → entry_at self.now k ≢ Some entry.now) }
@@ -94,7 +94,7 @@ impl Interner {
         }
     }
 
-    /// A new id of an entry, which is held no times so far.
+    /// A new id of an entry, which is held no times so far. Its twin is kept to look it up.
     fn add(&mut self, entry: Entry, twin: Entry) -> Result<Id, NoMemory>
         requires twins { twin ≡ entry }
         requires entry { IsEntry entry }
@@ -114,7 +114,7 @@ impl Interner {
         }
     }
 
-    /// The id of an entry, which is held no times if it is new.
+    /// The id of an entry, which is held no times if it is new. Where memory runs out, nothing has changed.
     pub(crate) fn find_or_add(&mut self, entry: &Entry) -> Result<Found, NoMemory>
         ensures ok { IfOk result (λ found. IsFound self.old self.new found entry.now) }
         ensures err { OnErr result (self.new ≡ self.old) }
@@ -153,7 +153,7 @@ impl Interner {
         self.recount(id, count.saturating_add(1));
     }
 
-    /// Gives an id up that is held no times.
+    /// Gives up an id that is held no times.
     pub(crate) fn sweep(&mut self, id: Id)
         ensures { self.new ≡ swept self.old id.key }
     {
@@ -177,7 +177,7 @@ impl Interner {
         }
     }
 
-    /// Holds an entry once more: the first time it gets a new id.
+    /// Holds an entry once more: the first time it gets a new id. Where memory runs out, nothing has changed.
     pub fn acquire(&mut self, entry: &Entry) -> Result<Id, NoMemory>
         ensures entry { IfOk result (λ id. entry_at self.new id.key ≡ Some entry.now) }
         ensures counts { IfOk result (λ id. IsAcquired self.old self.new (id.key ∷ [])) }

@@ -2,7 +2,7 @@
 
 ghost use Rattle.tile_records.specs.Laws.{PickedOfNothing, PickedOfPrimitive, PickedOfGroup, PickedHasValues, PickedIsBalanced, PickedIsShallow, PickedAreEntries};
 ghost use Rattle.tile_records.specs.Laws.{MiddlesMatterInside, DirtIsEnough, NothingIsStale, SameIsClean, DirtIsInTile};
-ghost use Rattle.tile_records.specs.Laws.{AcquiredInParts, MovesInParts};
+ghost use Rattle.tile_records.specs.Laws.{AcquiredInParts, MovesInParts, HeldStay, ClaimedStay, CoveredAreHeld};
 
 use primitives::entry_order_laws;
 
@@ -28,8 +28,11 @@ pub fn dirt_laws()
     entry_order_laws();
 }
 
-/// Ids may be held and released part by part. It does nothing.
+/// Ids may be held and released part by part, and those that others hold stay. It does nothing.
 pub fn holding_laws()
     ensures acquired { AcquiredInParts }
     ensures moves { MovesInParts }
+    ensures held { HeldStay }
+    ensures claimed { ClaimedStay }
+    ensures covered { CoveredAreHeld }
 {}

@@ -5,6 +5,7 @@
 //! drawn from the old one has to be drawn again.
 #![tactic(auto)]
 
+mod balance;
 mod dirt;
 mod id;
 mod interner;
@@ -16,6 +17,7 @@ mod record;
 mod slots;
 mod tiles;
 
+pub use balance::is_balanced;
 pub use dirt::dirty;
 pub use id::Id;
 pub use interner::{Interner, know_interner};

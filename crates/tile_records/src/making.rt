@@ -149,8 +149,8 @@ fn make(
 
 /// The record of the tile with this rectangle, each of whose ids is then held as often as the record names it.
 ///
-/// It has the primitives whose visible rectangles meet the tile, and the groups in which one is left, in their order. Where
-/// memory runs out, the interner is as it was.
+/// It has the primitives whose visible rectangles meet the tile, and the groups in which one is left, in their order. The
+/// entries must be primitives and whole groups. Where memory runs out, the interner is as it was.
 pub fn make_record(
     interner: &mut Interner,
     entries: &[Entry],
@@ -167,10 +167,10 @@ pub fn make_record(
     Ok(records.pop().unwrap())
 }
 
-/// The records of all tiles of a grid, in the grid's order, as `make_record` gives them. Each entry is looked up once.
+/// The records of all tiles of a grid, in the grid's order, as `make_record` gives them.
 ///
-/// It takes as long as the entries and the ids in the records are many, times the time to look an entry up. Where memory
-/// runs out, the interner is as it was.
+/// The entries are gone over once, and each is looked up once: the time grows with the entries, with the tiles and with the
+/// ids in all records. The entries must be primitives and whole groups. Where memory runs out, the interner is as it was.
 pub fn make_records(
     interner: &mut Interner,
     entries: &[Entry],

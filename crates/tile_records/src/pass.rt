@@ -4,9 +4,9 @@ ghost use Rattle.std.specs.Prelude.{◌≡◌, ◌++◌, ◌∷◌, [], ◌<◌,
 ghost use Rattle.primitives.specs.Stacks.{balanced};
 ghost use Rattle.primitives.specs.declared.entry.Entry.TheVariants as an_entry;
 ghost use Rattle.tile_records.specs.Interning.{ids_keys};
-ghost use Rattle.tile_records.specs.Picks.{picked_behind, shows_in};
+ghost use Rattle.tile_records.specs.Picks.{picked_after, shows_in};
 ghost use Rattle.tile_records.specs.Tiles.{columns_of, rows_of, rect_at};
-ghost use Rattle.tile_records.specs.Passing.{views, keys_of_records, state, Sound, Filled, Drawn, Leaves, AllLeave, Opened, Closed, Block, Takes, Fresh};
+ghost use Rattle.tile_records.specs.Passing.{views, keys_of_records, state, IsSoundPass, HasFilled, HasDrawn, Leaves, AllLeave, HasOpened, HasClosed, HasDrawnBlock, Takes, IsFresh};
 
 use crate::tiles::Tiles;
 use crate::{Id, TileRecord};
@@ -53,7 +53,7 @@ fn fill(
     requires tile { tile < length records.now.items }
     requires depths { length reached.now.items ≡ length groups.now }
     requires from { from ≤ length groups.now }
-    ensures { OnOk result (Filled groups.now from tile (keys_of_records records.old.items) (views reached.old.items) (keys_of_records records.new.items) (views reached.new.items)) }
+    ensures { OnOk result (HasFilled groups.now from tile (keys_of_records records.old.items) (views reached.old.items) (keys_of_records records.new.items) (views reached.new.items)) }
 {
     for depth in from..groups.len() {
         append_id(records, tile, groups[depth])?;
@@ -105,7 +105,7 @@ fn leave(
 impl Pass {
     /// Tiles with empty records.
     fn new(alloc: Global, count: usize) -> Result<Pass, AllocError>
-        ensures { IfOk result (λ p. Fresh count (state p)) }
+        ensures { IfOk result (λ p. IsFresh count (state p)) }
     {
         let mut records: Vec<TileRecord> = Vec::new(alloc);
         let mut entered: Vec<usize> = Vec::new(alloc);
@@ -125,9 +125,9 @@ impl Pass {
 
     /// Puts a primitive into one tile's record, after the groups that the tile lacks.
     fn enter(&mut self, tile: usize, key: usize) -> Result<(), AllocError>
-        requires sound { Sound (state self.now) }
+        requires sound { IsSoundPass (state self.now) }
         requires tile { tile < length (state self.now).lists }
-        ensures { OnOk result (Drawn tile (tile + 1) key (state self.old) (state self.new)) }
+        ensures { OnOk result (HasDrawn tile (tile + 1) key (state self.old) (state self.new)) }
     {
         let from = self.entered[tile];
         fill(
@@ -144,10 +144,10 @@ impl Pass {
 
     /// Puts a primitive into the records of tiles side by side.
     fn draw_row(&mut self, start: usize, end: usize, key: usize) -> Result<(), AllocError>
-        requires sound { Sound (state self.now) }
+        requires sound { IsSoundPass (state self.now) }
         requires end { end ≤ length (state self.now).lists }
         requires order { start ≤ end }
-        ensures { OnOk result (Drawn start end key (state self.old) (state self.new)) }
+        ensures { OnOk result (HasDrawn start end key (state self.old) (state self.new)) }
     {
         for tile in start..end {
             self.enter(tile, key)?;
@@ -163,14 +163,14 @@ impl Pass {
         part: GridPart,
         key: usize,
     ) -> Result<(), AllocError>
-        requires sound { Sound (state self.now) }
+        requires sound { IsSoundPass (state self.now) }
         requires sides { length (state self.now).lists ≡ rows * columns }
         requires across { part.columns.from ≤ part.columns.to }
         requires down { part.rows.from ≤ part.rows.to }
         requires right { part.columns.to ≤ columns }
         requires bottom { part.rows.to ≤ rows }
         requires few { rows * columns < 2 ^ 63 }
-        ensures { OnOk result (Block columns part.columns.from part.columns.to part.rows.from part.rows.to key (state self.old) (state self.new)) }
+        ensures { OnOk result (HasDrawnBlock columns part.columns.from part.columns.to part.rows.from part.rows.to key (state self.old) (state self.new)) }
     {
         let left = part.columns.from as usize;
         let right = part.columns.to as usize;
@@ -183,8 +183,8 @@ impl Pass {
 
     /// Opens a group, which no tile has yet.
     fn open_group(&mut self, alloc: Global, key: usize) -> Result<(), AllocError>
-        requires { Sound (state self.now) }
-        ensures { OnOk result (Opened key (state self.old) (state self.new)) }
+        requires { IsSoundPass (state self.now) }
+        ensures { OnOk result (HasOpened key (state self.old) (state self.new)) }
     {
         self.groups.push(key)?;
         self.reached.push(Vec::new(alloc))?;
@@ -193,9 +193,9 @@ impl Pass {
 
     /// Ends the innermost group, in the tiles that have it.
     fn close_group(&mut self, key: usize) -> Result<(), AllocError>
-        requires sound { Sound (state self.now) }
+        requires sound { IsSoundPass (state self.now) }
         requires opened { 0 < length (state self.now).groups }
-        ensures { OnOk result (Closed key (state self.old) (state self.new)) }
+        ensures { OnOk result (HasClosed key (state self.old) (state self.new)) }
     {
         let depth = self.groups.len();
         let _place = self.groups.pop().unwrap();
@@ -212,7 +212,7 @@ impl Pass {
         entry: &Entry,
         key: usize,
     ) -> Result<(), AllocError>
-        requires sound { Sound (state self.now) }
+        requires sound { IsSoundPass (state self.now) }
         requires sides { length (state self.now).lists ≡ rows_of tiles.now * columns_of tiles.now }
         requires pop { entry.now ≡ an_entry.Pop → 0 < length (state self.now).groups }
         ensures { OnOk result (Takes tiles.now entry.now key (state self.old) (state self.new)) }
@@ -226,7 +226,7 @@ impl Pass {
 
     /// Puts a primitive into the records of the tiles that it meets.
     fn draw(&mut self, tiles: &Tiles, primitive: &Primitive, key: usize) -> Result<(), AllocError>
-        requires sound { Sound (state self.now) }
+        requires sound { IsSoundPass (state self.now) }
         requires sides { length (state self.now).lists ≡ rows_of tiles.now * columns_of tiles.now }
         ensures { OnOk result (Takes tiles.now (an_entry.Primitive primitive.now) key (state self.old) (state self.new)) }
     {
@@ -248,7 +248,7 @@ pub(crate) fn picked_by_tile(
     requires ids { length ids.now ≡ length entries.now }
     ensures count { IfOk result (λ rs. length (keys_of_records rs.items) ≡ rows_of tiles.now * columns_of tiles.now) }
     ensures picked { IfOk result (λ rs. (c r : ℕ) → c < columns_of tiles.now → r < rows_of tiles.now
-        → get_or (keys_of_records rs.items) (r * columns_of tiles.now + c) [] ≡ picked_behind (shows_in (rect_at tiles.now c r)) [] entries.now (ids_keys ids.now)) }
+        → get_or (keys_of_records rs.items) (r * columns_of tiles.now + c) [] ≡ picked_after (shows_in (rect_at tiles.now c r)) [] entries.now (ids_keys ids.now)) }
 {
     let mut pass = Pass::new(alloc, tiles.count())?;
     for number in 0..entries.len() {

@@ -9,6 +9,7 @@ use crate::{Id, Interner};
 /// What a tile is drawn from: the entries of a slice that matter in it, in their order, each by its id.
 #[derive(Debug, Drop)]
 pub struct TileRecord {
+    /// In the order in which they are drawn.
     pub ids: Vec<Id>,
 }
 

@@ -1,105 +1,139 @@
 //! The dirt of two records.
 
-use super::made::{image, push, rect, solid, text};
+ghost use Rattle.std.specs.Prelude.{IsTrue};
+ghost use Rattle.primitives.specs.Stacks.{balanced};
+
+use super::made::Step::{self, Image, Pop, Push, Solid, Text};
+use super::made::{entries, rect};
 use primitives::Entry;
 use std::alloc::Global;
 use std::test::Fail;
-use tile_records::{Interner, dirty, make_record};
-use wr_geom::Rect;
+use tile_records::{Interner, dirty, holding_laws, is_balanced, make_record};
+use wr_geom::{NoMemory, Rect};
 
-/// The dirt of two lists in the tile [0 0 64 64].
-fn dirt(alloc: Global, old: &[Entry], new: &[Entry]) -> Result<Rect, Fail> {
-    let tile = rect(0, 0, 64, 64)?;
+/// The dirt of two lists in a tile.
+fn dirt(
+    interner: &mut Interner,
+    old: &[Entry],
+    new: &[Entry],
+    tile: Rect,
+) -> Result<Rect, NoMemory>
+    requires old { IsTrue (balanced 0 old.now) }
+    requires new { IsTrue (balanced 0 new.now) }
+{
+    holding_laws();
+    let before = make_record(interner, old, tile)?;
+    let after = make_record(interner, new, tile)?;
+    Ok(dirty(interner, &before, &after, tile))
+}
+
+/// The dirt of two lists in the tile [0 0 64 64], or none where a group doesn't end.
+fn dirt_of(alloc: Global, old: &[Step], new: &[Step]) -> Result<Option<Rect>, NoMemory> {
+    let old = entries(alloc, old)?;
+    let new = entries(alloc, new)?;
+    if !is_balanced(old.as_slice()) || !is_balanced(new.as_slice()) {
+        return Ok(None);
+    }
     let mut interner = Interner::new(alloc);
-    let before = make_record(&mut interner, old, tile)?;
-    let after = make_record(&mut interner, new, tile)?;
-    Ok(dirty(&interner, &before, &after, tile))
+    let tile = rect(0, 0, 64, 64);
+    Ok(Some(dirt(
+        &mut interner,
+        old.as_slice(),
+        new.as_slice(),
+        tile,
+    )?))
 }
 
 #[test]
 fn both_places_of_a_moved_solid(rt: HostRuntime) -> Result<(), Fail> {
-    let alloc = rt.alloc();
-    let old = [solid(alloc, rect(0, 0, 4, 4)?)?];
-    let new = [solid(alloc, rect(8, 0, 12, 4)?)?];
-    assert_eq!(rt; dirt(alloc, &old, &new)?, rect(0, 0, 12, 4)?);
-    assert_eq!(rt; dirt(alloc, &old, &old)?, rect(0, 0, 0, 0)?);
+    let old = [Solid(rect(0, 0, 4, 4))];
+    let new = [Solid(rect(8, 0, 12, 4))];
+    let dirt = dirt_of(rt.alloc(), &old, &new)?;
+    assert_eq!(rt; dirt, Some(rect(0, 0, 12, 4)));
+    Ok(())
+}
+
+#[test]
+fn a_record_against_itself_is_clean(rt: HostRuntime) -> Result<(), Fail> {
+    let all = [
+        Push(9),
+        Image(rect(5, 5, 9, 9), 1),
+        Pop,
+        Solid(rect(1, 1, 2, 2)),
+        Solid(rect(1, 1, 2, 2)),
+    ];
+    let dirt = dirt_of(rt.alloc(), &all, &all)?;
+    assert_eq!(rt; dirt, Some(rect(0, 0, 0, 0)));
     Ok(())
 }
 
 #[test]
 fn what_both_begin_and_end_with_is_left_off(rt: HostRuntime) -> Result<(), Fail> {
-    let alloc = rt.alloc();
     let old = [
-        solid(alloc, rect(0, 0, 64, 64)?)?,
-        push(alloc, 9),
-        solid(alloc, rect(5, 5, 9, 9)?)?,
-        Entry::Pop,
-        solid(alloc, rect(1, 1, 2, 2)?)?,
+        Solid(rect(0, 0, 64, 64)),
+        Push(9),
+        Solid(rect(5, 5, 9, 9)),
+        Pop,
+        Solid(rect(1, 1, 2, 2)),
     ];
     let new = [
-        solid(alloc, rect(0, 0, 64, 64)?)?,
-        push(alloc, 9),
-        solid(alloc, rect(5, 5, 8, 9)?)?,
-        solid(alloc, rect(20, 5, 90, 9)?)?,
-        Entry::Pop,
-        solid(alloc, rect(1, 1, 2, 2)?)?,
+        Solid(rect(0, 0, 64, 64)),
+        Push(9),
+        Solid(rect(5, 5, 8, 9)),
+        Solid(rect(20, 5, 90, 9)),
+        Pop,
+        Solid(rect(1, 1, 2, 2)),
     ];
-    assert_eq!(rt; dirt(alloc, &old, &new)?, rect(5, 5, 64, 9)?);
+    let dirt = dirt_of(rt.alloc(), &old, &new)?;
+    assert_eq!(rt; dirt, Some(rect(5, 5, 64, 9)));
     Ok(())
 }
 
 #[test]
-fn two_groups_of_one_content(rt: HostRuntime) -> Result<(), Fail> {
-    let alloc = rt.alloc();
-    let old = [push(alloc, 9), solid(alloc, rect(5, 5, 9, 9)?)?, Entry::Pop];
-    let new = [
-        push(alloc, 9),
-        solid(alloc, rect(5, 5, 9, 9)?)?,
-        Entry::Pop,
-        push(alloc, 9),
-        solid(alloc, rect(5, 5, 9, 9)?)?,
-        Entry::Pop,
-    ];
-    assert_eq!(rt; dirt(alloc, &old, &new)?, rect(5, 5, 9, 9)?);
+fn a_group_that_comes_twice(rt: HostRuntime) -> Result<(), Fail> {
+    let solid = Solid(rect(5, 5, 9, 9));
+    let old = [Push(9), solid, Pop];
+    let new = [Push(9), solid, Pop, Push(9), solid, Pop];
+    let dirt = dirt_of(rt.alloc(), &old, &new)?;
+    assert_eq!(rt; dirt, Some(rect(5, 5, 9, 9)));
     Ok(())
 }
 
 #[test]
 fn an_opacity_that_changes_is_the_whole_tile(rt: HostRuntime) -> Result<(), Fail> {
-    let alloc = rt.alloc();
-    let old = [
-        push(alloc, 128),
-        solid(alloc, rect(0, 0, 4, 4)?)?,
-        Entry::Pop,
-    ];
-    let new = [
-        push(alloc, 64),
-        solid(alloc, rect(0, 0, 4, 4)?)?,
-        Entry::Pop,
-    ];
-    let none = [solid(alloc, rect(0, 0, 4, 4)?)?];
-    assert_eq!(rt; dirt(alloc, &old, &new)?, rect(0, 0, 64, 64)?);
-    assert_eq!(rt; dirt(alloc, &none, &new)?, rect(0, 0, 4, 4)?);
+    let solid = Solid(rect(0, 0, 4, 4));
+    let old = [Push(128), solid, Pop];
+    let new = [Push(64), solid, Pop];
+    assert_eq!(rt; dirt_of(rt.alloc(), &old, &new)?, Some(rect(0, 0, 64, 64)));
+    assert_eq!(rt; dirt_of(rt.alloc(), &[solid], &new)?, Some(rect(0, 0, 4, 4)));
     Ok(())
 }
 
 #[test]
 fn an_image_that_is_updated(rt: HostRuntime) -> Result<(), Fail> {
-    let alloc = rt.alloc();
-    let place = rect(40, 60, 56, 76)?;
-    let old = [solid(alloc, rect(0, 0, 9, 9)?)?, image(alloc, place, 1)?];
-    let new = [solid(alloc, rect(0, 0, 9, 9)?)?, image(alloc, place, 2)?];
-    assert_eq!(rt; dirt(alloc, &old, &new)?, rect(40, 60, 56, 64)?);
+    let below = Solid(rect(0, 0, 9, 9));
+    let old = [below, Image(rect(40, 60, 56, 76), 1)];
+    let new = [below, Image(rect(40, 60, 56, 76), 2)];
+    let dirt = dirt_of(rt.alloc(), &old, &new)?;
+    assert_eq!(rt; dirt, Some(rect(40, 60, 56, 64)));
     Ok(())
 }
 
 #[test]
-fn a_glyph_at_another_place(rt: HostRuntime) -> Result<(), Fail> {
-    let alloc = rt.alloc();
-    let place = rect(8, 8, 30, 20)?;
-    let old = [text(alloc, place, 8)?];
-    let new = [text(alloc, place, 9)?];
-    assert_eq!(rt; dirt(alloc, &old, &new)?, place);
-    assert_eq!(rt; dirt(alloc, &new, &new)?, rect(0, 0, 0, 0)?);
+fn a_glyph_at_another_position(rt: HostRuntime) -> Result<(), Fail> {
+    let old = [Text(rect(8, 8, 30, 20), 8)];
+    let new = [Text(rect(8, 8, 30, 20), 9)];
+    let dirt = dirt_of(rt.alloc(), &old, &new)?;
+    assert_eq!(rt; dirt, Some(rect(8, 8, 30, 20)));
+    Ok(())
+}
+
+#[test]
+fn slices_that_are_exchanged(rt: HostRuntime) -> Result<(), Fail> {
+    let one = [Solid(rect(0, 0, 9, 9)), Push(9), Solid(rect(20, 20, 30, 24)), Pop];
+    let other = [Image(rect(10, 2, 12, 40), 1)];
+    let dirt = Some(rect(0, 0, 30, 40));
+    assert_eq!(rt; dirt_of(rt.alloc(), &one, &other)?, dirt);
+    assert_eq!(rt; dirt_of(rt.alloc(), &other, &one)?, dirt);
     Ok(())
 }

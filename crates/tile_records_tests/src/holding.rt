@@ -1,10 +1,12 @@
 //! An interner over many calls against a plain list.
 
-use super::made::{push, rect, solid, stands_for};
+use super::made::Step::{Image, Pop, Push, Solid, Text};
+use super::made::{entries, rect};
 use primitives::Entry;
 use std::alloc::Global;
 use std::test::Fail;
-use tile_records::{Id, Interner, give_up, make_record};
+use tile_records::{Id, Interner};
+use wr_geom::NoMemory;
 
 /// Numbers by a linear congruential generator.
 #[derive(Drop)]
@@ -13,77 +15,125 @@ struct Draws {
 }
 
 impl Draws {
-    /// A number below a limit that isn't 0.
-    fn below(&mut self, limit: usize) -> usize {
+    /// A number from 0 to 255.
+    fn draw(&mut self) -> u8 {
         let next = self.state.wrapping_mul(6_364_136_223_846_793_005);
         self.state = next.wrapping_add(1_442_695_040_888_963_407);
-        (self.state >> 33) as usize % limit
+        (self.state >> 56) as u8
     }
 }
 
-/// One of 12 entries.
-fn entry(alloc: Global, number: usize) -> Result<Entry, Fail> {
-    let x = number as i32;
-    if number < 6 {
-        return solid(alloc, rect(x, 0, x + 1, 1)?);
+/// The id that an entry had last, and how often it is held.
+#[derive(Clone, Copy)]
+struct Row {
+    id: Id,
+    count: u64,
+}
+
+/// What nothing was held under so far.
+const NO_ROW: Row = Row {
+    id: Id { key: 0 },
+    count: 0,
+};
+
+/// Whether an interner says of an entry what its row does.
+fn agrees(interner: &Interner, entry: &Entry, row: Row) -> bool {
+    if row.count == 0 {
+        return match interner.get(row.id) {
+            Some(other) => other != entry,
+            None => interner.count(row.id) == 0,
+        };
     }
-    Ok(push(alloc, number as u8))
+    match interner.get(row.id) {
+        Some(held) => held == entry && interner.count(row.id) == row.count,
+        None => false,
+    }
+}
+
+/// Whether an interner says what the rows of all entries do.
+fn all_agree(interner: &Interner, entries: &[Entry], rows: &[Row]) -> bool {
+    for i in 0..entries.len().min(rows.len()) {
+        if !agrees(interner, &entries[i], rows[i]) {
+            return false;
+        }
+    }
+    entries.len() == rows.len()
+}
+
+/// Holds an entry once more. Whether it keeps its id while it is held.
+fn hold(interner: &mut Interner, entry: &Entry, row: &mut Row) -> Result<bool, NoMemory> {
+    let id = interner.acquire(entry)?;
+    let keeps = row.count == 0 || row.id == id;
+    row.id = id;
+    row.count = row.count.wrapping_add(1);
+    Ok(keeps)
+}
+
+/// Holds an entry once less, if it is held. Its last id may be held for another entry by now.
+fn let_go(interner: &mut Interner, row: &mut Row) {
+    if row.count > 0 {
+        interner.release(row.id);
+        row.count -= 1;
+    }
+}
+
+/// Holds one of the entries once more or once less, as is drawn. Whether it keeps its id while it is held.
+fn call(
+    interner: &mut Interner,
+    entries: &[Entry],
+    rows: &mut [Row],
+    draws: &mut Draws,
+) -> Result<bool, NoMemory> {
+    let i = usize::from(draws.draw() % 12);
+    if i >= entries.len() || i >= rows.len() {
+        return Ok(false);
+    }
+    if draws.draw() < 120 {
+        return hold(interner, &entries[i], &mut rows[i]);
+    }
+    let_go(interner, &mut rows[i]);
+    Ok(true)
+}
+
+/// Whether an interner says what a plain list does, after each of some thousand calls.
+fn agrees_for_long(interner: &mut Interner, entries: &[Entry]) -> Result<bool, NoMemory> {
+    let mut draws = Draws { state: 1 };
+    let mut rows = [NO_ROW; 12];
+    for _ in 0..5000 {
+        if !call(interner, entries, &mut rows, &mut draws)? {
+            return Ok(false);
+        }
+        if !all_agree(interner, entries, &rows) {
+            return Ok(false);
+        }
+    }
+    Ok(true)
+}
+
+/// Twelve entries, some of which differ little.
+fn twelve(alloc: Global) -> Result<Vec<Entry>, NoMemory> {
+    let place = rect(0, 0, 8, 8);
+    let steps = [
+        Solid(place),
+        Solid(rect(0, 0, 8, 9)),
+        Solid(rect(-1, 0, 8, 8)),
+        Image(place, 1),
+        Image(place, 2),
+        Text(place, 1),
+        Text(place, 2),
+        Push(0),
+        Push(1),
+        Push(255),
+        Pop,
+        Solid(rect(0, 0, 0, 0)),
+    ];
+    Ok(entries(alloc, &steps)?)
 }
 
 #[test]
 fn counts_are_those_of_a_list(rt: HostRuntime) -> Result<(), Fail> {
-    let alloc = rt.alloc();
-    let mut interner = Interner::new(alloc);
-    let mut draws = Draws { state: 1 };
-    let mut counts = [0u64; 12];
-    let mut ids: [Option<Id>; 12] = [None; 12];
-    for _ in 0..4000 {
-        let k = draws.below(12);
-        if draws.below(5) < 2 || counts[k] == 0 {
-            let id = interner.acquire(&entry(alloc, k)?)?;
-            if counts[k] > 0 {
-                assert!(rt; ids[k] == Some(id));
-            }
-            ids[k] = Some(id);
-            counts[k] += 1;
-        } else if let Some(id) = ids[k] {
-            interner.release(id);
-            counts[k] -= 1;
-            assert_eq!(rt; interner.get(id).is_some(), counts[k] > 0);
-        }
-        if let Some(id) = ids[k] {
-            if counts[k] > 0 {
-                assert_eq!(rt; interner.count(id), counts[k]);
-                assert!(rt; interner.get(id) == Some(&entry(alloc, k)?));
-            }
-        }
-    }
-    Ok(())
-}
-
-#[test]
-fn records_that_are_given_up_leave_nothing(rt: HostRuntime) -> Result<(), Fail> {
-    let alloc = rt.alloc();
-    let mut interner = Interner::new(alloc);
-    let tile = rect(0, 0, 64, 64)?;
-    let entries = [
-        push(alloc, 9),
-        solid(alloc, rect(0, 0, 4, 4)?)?,
-        Entry::Pop,
-        push(alloc, 9),
-        solid(alloc, rect(0, 0, 4, 4)?)?,
-        Entry::Pop,
-    ];
-    let one = make_record(&mut interner, &entries, tile)?;
-    let two = make_record(&mut interner, &entries, tile)?;
-    assert!(rt; one.ids == two.ids);
-    assert_eq!(rt; interner.count(one.ids[0]), 4);
-    assert_eq!(rt; interner.count(one.ids[2]), 4);
-    give_up(&mut interner, one);
-    assert!(rt; stands_for(&interner, &two, &entries));
-    let id = two.ids[1];
-    assert_eq!(rt; interner.count(id), 2);
-    give_up(&mut interner, two);
-    assert!(rt; interner.get(id).is_none());
+    let entries = twelve(rt.alloc())?;
+    let mut interner = Interner::new(rt.alloc());
+    assert!(rt; agrees_for_long(&mut interner, entries.as_slice())?);
     Ok(())
 }

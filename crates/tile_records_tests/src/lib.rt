@@ -9,3 +9,5 @@ mod holding;
 mod made;
 #[cfg(test)]
 mod picking;
+#[cfg(test)]
+mod records;

@@ -3,10 +3,22 @@
 use blend_rules::{Mode, Px};
 use containers::Sequence;
 use primitives::{Entry, GlyphUse, Kind, Primitive};
-use std::alloc::Global;
-use std::test::Fail;
-use tile_records::{Interner, TileRecord};
+use std::alloc::{AllocError, Global};
 use wr_geom::Rect;
+
+/// An entry in few words, without clips.
+#[derive(Clone, Copy)]
+pub(crate) enum Step {
+    /// A red rectangle.
+    Solid(Rect),
+    /// An image of this generation.
+    Image(Rect, u64),
+    /// A text of one glyph, at this column and row 0.
+    Text(Rect, i32),
+    /// A group of this opacity.
+    Push(u8),
+    Pop,
+}
 
 const RED: Px = Px {
     b: 0,
@@ -15,36 +27,16 @@ const RED: Px = Px {
     a: 255,
 };
 
-/// A rectangle by its edges.
-pub(crate) fn rect(x0: i32, y0: i32, x1: i32, y1: i32) -> Result<Rect, Fail> {
-    Ok(Rect::new(x0, y0, x1, y1).ok_or("no rectangle")?)
+/// A rectangle by its edges, and an empty one where they are out of order.
+pub(crate) fn rect(x0: i32, y0: i32, x1: i32, y1: i32) -> Rect {
+    match Rect::new(x0, y0, x1, y1) {
+        Some(rect) => rect,
+        None => Rect::new(0, 0, 0, 0).unwrap(),
+    }
 }
 
-/// Something of this kind in a rectangle, without clips.
-fn plain(alloc: Global, kind: Kind, rect: Rect) -> Result<Entry, Fail> {
-    let primitive = Primitive::new(kind, rect, Sequence::new(alloc)).ok_or("no primitive")?;
-    Ok(Entry::Primitive(primitive))
-}
-
-/// A red rectangle.
-pub(crate) fn solid(alloc: Global, rect: Rect) -> Result<Entry, Fail> {
-    plain(alloc, Kind::Solid(RED), rect)
-}
-
-/// An image of this generation in a rectangle.
-pub(crate) fn image(alloc: Global, rect: Rect, generation: u64) -> Result<Entry, Fail> {
-    let kind = Kind::Image {
-        pipeline: 0,
-        key: 7,
-        generation: Some(generation),
-        u: 0,
-        v: 0,
-    };
-    plain(alloc, kind, rect)
-}
-
-/// A text of one glyph in a rectangle, the glyph at (x, 0).
-pub(crate) fn text(alloc: Global, rect: Rect, x: i32) -> Result<Entry, Fail> {
+/// A text of one glyph at (x, 0).
+fn text(alloc: Global, x: i32) -> Result<Kind, AllocError> {
     let mut glyphs = Sequence::new(alloc);
     glyphs.push(GlyphUse {
         glyph: 1,
@@ -52,33 +44,55 @@ pub(crate) fn text(alloc: Global, rect: Rect, x: i32) -> Result<Entry, Fail> {
         y: 0,
         generation: Some(1),
     })?;
-    let kind = Kind::Text {
+    Ok(Kind::Text {
         pipeline: 0,
         font: 0,
         colour: RED,
         glyphs,
-    };
-    plain(alloc, kind, rect)
+    })
 }
 
-/// The start of a group of this opacity.
-pub(crate) fn push(alloc: Global, opacity: u8) -> Entry {
-    Entry::Push {
-        opacity,
-        mode: Mode::Normal,
-        clips: Sequence::new(alloc),
+/// An image of this generation.
+fn image(generation: u64) -> Kind {
+    Kind::Image {
+        pipeline: 0,
+        key: 7,
+        generation: Some(generation),
+        u: 0,
+        v: 0,
     }
 }
 
-/// Whether a record stands for just these entries.
-pub(crate) fn stands_for(interner: &Interner, record: &TileRecord, entries: &[Entry]) -> bool {
-    if record.ids.len() != entries.len() {
-        return false;
+/// Something of this kind in a rectangle, if it fits.
+fn primitive(alloc: Global, kind: Kind, rect: Rect) -> Option<Entry> {
+    match Primitive::new(kind, rect, Sequence::new(alloc)) {
+        Some(primitive) => Some(Entry::Primitive(primitive)),
+        None => None,
     }
-    for i in 0..entries.len() {
-        if interner.get(record.ids[i]) != Some(&entries[i]) {
-            return false;
+}
+
+/// The entry of a step, if it fits its rectangle.
+fn entry(alloc: Global, step: &Step) -> Result<Option<Entry>, AllocError> {
+    Ok(match step {
+        Step::Solid(rect) => primitive(alloc, Kind::Solid(RED), *rect),
+        Step::Image(rect, generation) => primitive(alloc, image(*generation), *rect),
+        Step::Text(rect, x) => primitive(alloc, text(alloc, *x)?, *rect),
+        Step::Push(opacity) => Some(Entry::Push {
+            opacity: *opacity,
+            mode: Mode::Normal,
+            clips: Sequence::new(alloc),
+        }),
+        Step::Pop => Some(Entry::Pop),
+    })
+}
+
+/// The entries of steps.
+pub(crate) fn entries(alloc: Global, steps: &[Step]) -> Result<Vec<Entry>, AllocError> {
+    let mut all = Vec::new(alloc);
+    for step in steps {
+        if let Some(entry) = entry(alloc, step)? {
+            all.push(entry)?;
         }
     }
-    true
+    Ok(all)
 }

@@ -1,96 +1,86 @@
 //! What is picked for a tile.
 
-use super::made::{push, rect, solid, stands_for};
+use super::made::Step::{self, Pop, Push, Solid};
+use super::made::{entries, rect};
 use primitives::Entry;
+use std::alloc::Global;
 use std::test::Fail;
-use tile_grid::{TileGrid, TileSides};
-use tile_records::{Interner, make_record, make_records};
-use wr_geom::Point;
+use tile_records::{Interner, TileRecord, is_balanced, make_record};
+use wr_geom::{NoMemory, Rect};
+
+/// Whether a record stands for just these entries.
+fn stands_for(interner: &Interner, record: &TileRecord, wanted: &[Entry]) -> bool {
+    if record.ids.len() != wanted.len() {
+        return false;
+    }
+    for i in 0..wanted.len() {
+        match interner.get(record.ids[i]) {
+            Some(entry) => {
+                if entry != &wanted[i] {
+                    return false;
+                }
+            }
+            None => return false,
+        }
+    }
+    true
+}
+
+/// Whether just these steps are picked of all for a tile.
+fn are_picked(
+    alloc: Global,
+    all: &[Step],
+    tile: Rect,
+    wanted: &[Step],
+) -> Result<bool, NoMemory> {
+    let all = entries(alloc, all)?;
+    let wanted = entries(alloc, wanted)?;
+    if !is_balanced(all.as_slice()) {
+        return Ok(false);
+    }
+    let mut interner = Interner::new(alloc);
+    let record = make_record(&mut interner, all.as_slice(), tile)?;
+    Ok(stands_for(&interner, &record, wanted.as_slice()))
+}
 
 #[test]
 fn tiles_are_picked_up_to_their_edges(rt: HostRuntime) -> Result<(), Fail> {
-    let alloc = rt.alloc();
-    let tile = rect(-64, 0, 0, 64)?;
-    let entries = [
-        solid(alloc, rect(-70, 10, -64, 20)?)?,
-        solid(alloc, rect(-70, 10, -63, 20)?)?,
-        solid(alloc, rect(0, 10, 9, 20)?)?,
-        solid(alloc, rect(-1, 10, 9, 20)?)?,
-        solid(alloc, rect(-9, -9, -1, 0)?)?,
-        solid(alloc, rect(-9, -9, -1, 1)?)?,
-        solid(alloc, rect(-9, 64, -1, 70)?)?,
-        solid(alloc, rect(-9, 63, -1, 70)?)?,
+    let all = [
+        Solid(rect(-70, 10, -64, 20)),
+        Solid(rect(-70, 10, -63, 20)),
+        Solid(rect(0, 10, 9, 20)),
+        Solid(rect(-1, 10, 9, 20)),
+        Solid(rect(-9, -9, -1, 0)),
+        Solid(rect(-9, -9, -1, 1)),
+        Solid(rect(-9, 64, -1, 70)),
+        Solid(rect(-9, 63, -1, 70)),
     ];
-    let mut interner = Interner::new(alloc);
-    let record = make_record(&mut interner, &entries, tile)?;
     let wanted = [
-        solid(alloc, rect(-70, 10, -63, 20)?)?,
-        solid(alloc, rect(-1, 10, 9, 20)?)?,
-        solid(alloc, rect(-9, -9, -1, 1)?)?,
-        solid(alloc, rect(-9, 63, -1, 70)?)?,
+        Solid(rect(-70, 10, -63, 20)),
+        Solid(rect(-1, 10, 9, 20)),
+        Solid(rect(-9, -9, -1, 1)),
+        Solid(rect(-9, 63, -1, 70)),
     ];
-    assert!(rt; stands_for(&interner, &record, &wanted));
+    assert!(rt; are_picked(rt.alloc(), &all, rect(-64, 0, 0, 64), &wanted)?);
     Ok(())
 }
 
 #[test]
 fn groups_without_a_primitive_are_left_out(rt: HostRuntime) -> Result<(), Fail> {
-    let alloc = rt.alloc();
-    let entries = [
-        push(alloc, 1),
-        push(alloc, 2),
-        Entry::Pop,
-        push(alloc, 3),
-        solid(alloc, rect(0, 0, 4, 4)?)?,
-        Entry::Pop,
-        push(alloc, 4),
-        solid(alloc, rect(80, 0, 84, 4)?)?,
-        Entry::Pop,
-        Entry::Pop,
+    let solid = Solid(rect(0, 0, 4, 4));
+    let all = [
+        Push(1),
+        Push(2),
+        Pop,
+        Push(3),
+        solid,
+        Pop,
+        Push(4),
+        Solid(rect(80, 0, 84, 4)),
+        Pop,
+        Pop,
     ];
-    let mut interner = Interner::new(alloc);
-    let record = make_record(&mut interner, &entries, rect(0, 0, 64, 64)?)?;
-    let wanted = [
-        push(alloc, 1),
-        push(alloc, 3),
-        solid(alloc, rect(0, 0, 4, 4)?)?,
-        Entry::Pop,
-        Entry::Pop,
-    ];
-    assert!(rt; stands_for(&interner, &record, &wanted));
-    Ok(())
-}
-
-#[test]
-fn all_tiles_have_the_records_of_each(rt: HostRuntime) -> Result<(), Fail> {
-    let alloc = rt.alloc();
-    let sides = TileSides {
-        width: 64,
-        height: 64,
-    };
-    let origin = Point { x: 70, y: 10 };
-    let grid = TileGrid::visible(sides, rect(0, 0, 200, 100)?, origin);
-    assert_eq!(rt; grid.count(), 15);
-    let entries = [
-        push(alloc, 9),
-        solid(alloc, rect(-70, -10, 30, 30)?)?,
-        push(alloc, 8),
-        solid(alloc, rect(100, 70, 120, 80)?)?,
-        Entry::Pop,
-        solid(alloc, rect(-1, -1, 1, 1)?)?,
-        Entry::Pop,
-        solid(alloc, rect(-1, -1, 1, 1)?)?,
-    ];
-    let mut interner = Interner::new(alloc);
-    let records = make_records(&mut interner, &entries, grid)?;
-    assert_eq!(rt; records.len(), 15);
-    let mut named = 0;
-    for i in 0..15 {
-        let tile = grid.tile(i);
-        let record = make_record(&mut interner, &entries, tile.rect)?;
-        assert!(rt; records[i].ids == record.ids);
-        named += record.ids.len();
-    }
-    assert_eq!(rt; named, 31);
+    let wanted = [Push(1), Push(3), solid, Pop, Pop];
+    assert!(rt; are_picked(rt.alloc(), &all, rect(0, 0, 64, 64), &wanted)?);
     Ok(())
 }

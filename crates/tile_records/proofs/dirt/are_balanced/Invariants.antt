@@ -1,7 +1,7 @@
 use Rattle.std.proofs.Common.{◌≡◌, ◌≤◌, drop}
 use Rattle.primitives.specs.Stacks.{balanced}
 use Rattle.tile_records.specs.Interning.{entries_under, ids_keys}
-use Rattle.tile_records.proofs.dirt.is_balanced.Given as goal
+use Rattle.tile_records.proofs.dirt.are_balanced.Given as goal
 
 -- what is left, after the open groups, is balanced where all is
 abbrev pub invariant-loop-id : goal.invariant-loop-id

@@ -1,6 +1,6 @@
 use Rattle.std.proofs.Common.{◌≡◌, drop}
 use Rattle.tile_records.specs.Dirt.{same_id, rests}
-use Rattle.tile_records.proofs.dirt.common_front.Given as goal
+use Rattle.tile_records.proofs.dirt.common_prefix.Given as goal
 
 -- what is left differs as the whole does
 abbrev pub invariant-loop-i : goal.invariant-loop-i

@@ -1,7 +1,7 @@
 use Rattle.std.proofs.Common.{◌≡◌, ◌∙◌, ◌-◌, length, get_or, true, false, arith}
 use Rattle.tile_records.specs.Dirt.{no_id, same_id}
 use Rattle.tile_records.proofs.Commons.{back_step, back_stop, back_end}
-use Rattle.tile_records.proofs.dirt.common_back.Goals as goal
+use Rattle.tile_records.proofs.dirt.common_suffix.Goals as goal
 
 pub returns-clause-longest : goal.returns-clause-longest
 returns-clause-longest c = c.loop-i.invariant ∙ back_end c.args.old.now c.args.new.now c.loop-i.i c.min.result (omega arith) (omega arith) (omega arith)
