@@ -1,5 +1,5 @@
 -- What two lists of ids don't have in common, their entries don't have either.
-use Rattle.std.proofs.Common.{rules, ◌≡◌, ◌<◌, ◌≤◌, ◌+◌, ◌-◌, ℕ, zero, suc, Bool, List, [], ◌∷◌, ◌++◌, reverse, length, take, drop, IsSome, refl, sym, ap, ap₂, subst, ◌∙◌, true, arith}
+use Rattle.std.proofs.Common.{rules, ◌≡◌, ◌≤◌, ◌-◌, ℕ, zero, suc, List, [], ◌∷◌, reverse, length, take, drop, IsSome, refl, sym, ap, ap₂, subst, ◌∙◌, true, arith}
 use Rattle.std.proofs.lemmas.Grind.{common_steps}
 use Rattle.std.proofs.lemmas.List.{reverse-append, reverse-reverse, length-reverse, take-append-le}
 use Rattle.std.proofs.lemmas.List.Elements.{All-head, All-tail, All-append, All-cons, All-nil}
@@ -7,8 +7,8 @@ use Rattle.std.specs.FinMap.{get}
 use Rattle.wr_geom.specs.Bounds.{Bounds}
 use Rattle.primitives.specs.declared.entry.Entry.{Entry}
 use Rattle.tile_records.specs.declared.id.Id.{Id}
-use Rattle.tile_records.specs.Interning.{Interning, AreHeld, IsDistinct, entries_under, ids_keys}
-use Rattle.tile_records.specs.Dirt.{Pair, same_entry, same_id, rests, reversed, fronts, middles, dirt_between, dirt, SharedPrefix}
+use Rattle.tile_records.specs.Interning.{Interning, AreHeld, IsDistinct, ids_keys}
+use Rattle.tile_records.specs.Dirt.{Pair, same_entry, rests, reversed, fronts, middles, dirt_between, dirt, SharedPrefix}
 use Rattle.tile_records.proofs.Unders.{under, unders, rests_under, under_reversed, keys_append}
 
 -- ---- lists

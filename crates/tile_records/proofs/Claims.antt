@@ -1,10 +1,10 @@
 -- What the others who hold ids may rely on.
-use Rattle.std.proofs.Common.{◌≡◌, ◌≢◌, ◌<◌, ◌≤◌, ◌+◌, ◌-◌, nat_lt, nat_le, ℕ, zero, suc, Bool, true, false, min, List, [], ◌∷◌, ◌++◌, Option, Some, None, if◌then◌else◌, refl, sym, ap, subst, ◌∙◌, arith}
+use Rattle.std.proofs.Common.{◌≡◌, ◌<◌, ◌≤◌, ◌+◌, ◌-◌, nat_lt, nat_le, ℕ, zero, suc, Bool, true, false, List, [], Option, Some, None, if◌then◌else◌, refl, sym, ap, subst, ◌∙◌, arith}
 use Rattle.std.proofs.lemmas.Bool.Decides.{nat_tests}
 use Rattle.std.specs.FinMap.{get}
 use Rattle.tile_records.specs.declared.slots.Held.{Held}
-use Rattle.tile_records.specs.Interning.{Interning, entry_of, entry_at}
-use Rattle.tile_records.specs.Counts.{last_count, times, IsRaised, lowered_slot, IsAcquired, IsReleased, Suffices, Covers, Moves}
+use Rattle.tile_records.specs.Interning.{Interning, entry_of}
+use Rattle.tile_records.specs.Counts.{last_count, times, IsRaised, lowered_slot, IsAcquired, IsReleased, Suffices, Moves}
 use Rattle.tile_records.proofs.Holding.{times_append}
 
 -- ---- held more often

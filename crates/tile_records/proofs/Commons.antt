@@ -1,6 +1,6 @@
 -- Steps through what two lists of ids have in common.
 use Rattle.std.proofs.lemmas.Bool.Decides.{nat_tests}
-use Rattle.std.proofs.Common.{◌≡◌, nat_le, ℕ, suc, ◌+◌, ◌-◌, ◌<◌, ◌≤◌, Bool, true, false, List, [], ◌∷◌, length, reverse, get_or, drop, if◌then◌else◌, refl, sym, ap, ap₂, subst, ◌∙◌, add-one, min, arith}
+use Rattle.std.proofs.Common.{◌≡◌, nat_le, ℕ, suc, ◌+◌, ◌-◌, ◌<◌, ◌≤◌, Bool, true, false, List, [], ◌∷◌, length, reverse, get_or, drop, if◌then◌else◌, refl, ap, ap₂, ◌∙◌, add-one, min, arith}
 use Rattle.std.proofs.Math.Seq.{drop-cons}
 use Rattle.std.proofs.lemmas.List.{get_or-reverse, length-reverse, drop_all}
 use Rattle.tile_records.specs.declared.id.Id.{Id}

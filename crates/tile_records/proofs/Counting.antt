@@ -1,16 +1,14 @@
 -- What holding, releasing and giving up ids leaves under each key.
-use Rattle.std.proofs.Common.{◌≡◌, ◌≢◌, ◌<◌, ◌≤◌, ◌+◌, ◌-◌, ◌==◌, nat_lt, nat_le, ℕ, zero, suc, Bool, true, false, cond, min, List, [], ◌∷◌, ◌++◌, Option, Some, None, IsSome, is_some, if◌then◌else◌, refl, sym, ap, subst, ◌∙◌, true≢false, arith}
+use Rattle.std.proofs.Common.{◌≡◌, ◌≢◌, ◌<◌, ◌+◌, ◌-◌, ◌==◌, nat_lt, nat_le, ℕ, zero, suc, Bool, true, false, cond, min, List, [], ◌∷◌, ◌++◌, Option, Some, None, IsSome, is_some, if◌then◌else◌, refl, sym, ap, subst, ◌∙◌, true≢false, arith}
 use Rattle.std.proofs.lemmas.Bool.Decides.{nat_tests}
 use Rattle.std.specs.Cmp.{nat_cmp_total}
 use Rattle.std.specs.Ordering.{nat_cmp, eq_by_cmp}
-use Rattle.std.specs.FinMap.{get, insert, remove, same_map, nat_cmp-IsAntisymmetric}
-use Rattle.primitives.specs.declared.entry.Entry.{Entry}
+use Rattle.std.specs.FinMap.{get, remove, same_map, nat_cmp-IsAntisymmetric}
 use Rattle.tile_records.specs.declared.slots.Held.{Held}
 use Rattle.tile_records.specs.Interning.{Interning, entry_of, count_of, entry_at, count_at}
 use Rattle.tile_records.specs.Counts.{last_count, times, recounted_at, recounted, raised, lowered, swept, raised_all, raised_records, lowered_all, swept_all, removed_all, IsRaised, lowered_slot, IsAcquired, IsReleased}
 use Rattle.tile_records.specs.Making.{IsGrownSlot, IsGrown}
 use Rattle.tile_records.specs.Passing.{joined}
-use Rattle.tile_records.proofs.Holding.{times_append}
 use Rattle.tile_records.proofs.Recounts.{at_inserted, at_removed}
 use Rattle.tile_records.proofs.Views.{same_eq}
 

@@ -1,5 +1,5 @@
 -- Entries that are interned one after another, and records of them.
-use Rattle.std.proofs.Common.{◌≡◌, ◌<◌, ◌≤◌, ◌+◌, ◌*◌, ◌/◌, ◌%◌, ℕ, zero, suc, Bool, true, false, cond, List, [], ◌∷◌, ◌++◌, length, get_or, map, All, Option, Some, None, IsSome, is_some, refl, sym, ap, ap₂, subst, ◌∙◌, true≢false, append-nil, arith}
+use Rattle.std.proofs.Common.{◌≡◌, ◌<◌, ◌+◌, ◌*◌, ◌/◌, ◌%◌, ℕ, zero, suc, Bool, true, false, cond, List, [], ◌∷◌, ◌++◌, length, get_or, map, Option, Some, IsSome, refl, sym, ap, ap₂, subst, ◌∙◌, append-nil, arith}
 use Rattle.std.specs.Ordering.{nat_cmp, eq_by_cmp}
 use Rattle.std.specs.FinMap.{get, insert, remove}
 use Rattle.std.proofs.lemmas.List.Elements.{All-cons, All-nil}
@@ -10,7 +10,6 @@ use Rattle.primitives.specs.declared.entry.Entry.{Entry}
 use Rattle.tile_records.specs.declared.id.Id.{Id}
 use Rattle.tile_records.specs.declared.interner.Found.{Found}
 use Rattle.tile_records.specs.declared.interner.Found.TheVariants as found
-use Rattle.tile_records.specs.declared.slots.Held.{Held}
 use Rattle.tile_records.specs.declared.record.TileRecord.{TileRecord}
 use Rattle.tile_records.specs.declared.tiles.Tiles.{Tiles}
 use Rattle.tile_records.specs.declared.tiles.Tiles.TheVariants.{One}

@@ -1,5 +1,5 @@
 -- Lists that differ in balanced middles, and their dirt.
-use Rattle.std.proofs.Common.{◌≡◌, Bool, true, false, ◌&&◌, List, [], ◌∷◌, ◌++◌, reverse, All, if◌then◌else◌, IsTrue, IsFalse, refl, sym, ap, ap₂, ◌∙◌, subst, true≢false}
+use Rattle.std.proofs.Common.{◌≡◌, Bool, true, false, ◌&&◌, List, [], ◌∷◌, ◌++◌, reverse, All, if◌then◌else◌, refl, sym, ap, ap₂, ◌∙◌, subst, true≢false}
 use Rattle.std.specs.Prelude.{ℤ}
 use Rattle.std.proofs.lemmas.Bool.{and_parts}
 use Rattle.std.proofs.lemmas.List.{reverse-append, reverse-reverse}
@@ -10,7 +10,7 @@ use Rattle.wr_geom.proofs.Rects.{bounding_covers_first, bounding_covers_second, 
 use Rattle.blend_rules.proofs.Blends.{clear_is_pixel}
 use Rattle.image_store.specs.StoreModel.{StoreModel, IsStore}
 use Rattle.primitives.specs.Colours.{visible_rect}
-use Rattle.primitives.specs.Facts.{IsEntry, IsGroup, IsHidden, IsStack}
+use Rattle.primitives.specs.Facts.{IsEntry, IsGroup, IsHidden}
 use Rattle.primitives.specs.Stacks.{Stack, empty_stack, run, balanced, value_at}
 use Rattle.primitives.specs.declared.entry.Entry.{Entry}
 use Rattle.primitives.specs.declared.entry.Entry.TheVariants as entry

@@ -1,5 +1,5 @@
 -- A part of the tiles is that of those that a primitive meets.
-use Rattle.std.proofs.Common.{◌≡◌, ◌⊎◌, inl, inr, ℕ, ◌+◌, ◌*◌, ◌<◌, ◌≤◌, Bool, true, false, ◌&&◌, nat_le, nat_lt, if◌then◌else◌, refl, sym, ap, ◌∙◌, arith}
+use Rattle.std.proofs.Common.{◌≡◌, ℕ, ◌+◌, ◌*◌, ◌<◌, ◌≤◌, Bool, true, false, ◌&&◌, nat_le, nat_lt, if◌then◌else◌, refl, ap, ◌∙◌, arith}
 use Rattle.std.proofs.lemmas.Bool.Decides.{nat_tests}
 use Rattle.primitives.specs.Colours.{visible_rect}
 use Rattle.primitives.specs.PrimitiveModel.{PrimitiveModel}
@@ -7,7 +7,6 @@ use Rattle.tile_grid.specs.declared.part.GridPart.{GridPart}
 use Rattle.tile_grid.specs.Parts.{is_in_part}
 use Rattle.tile_grid.specs.Tiles.{meets}
 use Rattle.tile_records.specs.declared.tiles.Tiles.{Tiles}
-use Rattle.tile_records.specs.Picks.{shows_in}
 use Rattle.tile_records.specs.Tiles.{columns_of, rows_of, rect_at}
 use Rattle.tile_records.specs.Passing.{State, TileState, HasDrawnBlock, HasPainted, drawn, tile_of}
 

@@ -1,8 +1,8 @@
 -- What is picked has the value of all, and is in order as all is.
-use Rattle.std.proofs.Common.{◌≡◌, ℕ, zero, suc, ◌<◌, ◌^◌, Bool, true, false, List, [], ◌∷◌, ◌++◌, reverse, map, All, Contains, if◌then◌else◌, IsTrue, refl, sym, ap, ◌∙◌, subst, true≢false, append_assoc}
+use Rattle.std.proofs.Common.{◌≡◌, ℕ, zero, suc, ◌<◌, ◌^◌, Bool, true, false, List, [], ◌∷◌, ◌++◌, reverse, map, All, Contains, if◌then◌else◌, refl, sym, ap, ◌∙◌, subst, true≢false, append_assoc}
 use Rattle.std.specs.Prelude.{ℤ}
 use Rattle.std.proofs.lemmas.List.{reverse-append}
-use Rattle.std.proofs.lemmas.List.Elements.{All-head, All-tail, All-cons, All-nil, All-append, All-contains_itself}
+use Rattle.std.proofs.lemmas.List.Elements.{All-head, All-tail, All-cons, All-nil, All-contains_itself}
 use Rattle.wr_geom.specs.Bounds.{Bounds, holds}
 use Rattle.blend_rules.specs.Colour.{IsPixel}
 use Rattle.blend_rules.proofs.Blends.{clear_is_pixel}
@@ -16,7 +16,7 @@ use Rattle.primitives.specs.declared.entry.Entry.TheVariants as entry
 use Rattle.primitives.proofs.Runs.{run_keeps_pixels, hidden_leaves_stack, hidden_list_leaves_stack}
 use Rattle.tile_grid.specs.Tiles.{meets}
 use Rattle.tile_grid.proofs.Meetings.{meets_points}
-use Rattle.tile_records.specs.Picks.{shows_in, picked_after, picked}
+use Rattle.tile_records.specs.Picks.{shows_in, picked_after}
 use Rattle.tile_records.specs.Laws.{PickedHasValues, PickedIsBalanced, PickedIsShallow, PickedAreEntries}
 
 -- of the entries themselves

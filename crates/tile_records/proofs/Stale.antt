@@ -1,5 +1,5 @@
 -- Outside of the dirt, nothing is stale.
-use Rattle.std.proofs.Common.{◌≡◌, Bool, true, false, ◌&&◌, List, [], ◌∷◌, ◌++◌, All, IsTrue, sym, subst, ◌∙◌, true≢false}
+use Rattle.std.proofs.Common.{◌≡◌, true, false, ◌&&◌, List, ◌++◌, All, sym, subst, ◌∙◌, true≢false}
 use Rattle.std.specs.Prelude.{ℤ}
 use Rattle.std.proofs.lemmas.List.Elements.{All-weaker, All-append}
 use Rattle.wr_geom.specs.Bounds.{Bounds, holds}

@@ -1,13 +1,11 @@
 -- Ids that stay held, with their entries, while others are held or given up.
-use Rattle.std.proofs.Common.{◌≡◌, ◌<◌, ◌+◌, ℕ, zero, suc, Bool, true, false, cond, List, [], ◌∷◌, ◌++◌, length, All, Contains, Option, Some, None, IsSome, is_some, refl, sym, ap, ap₂, subst, ◌∙◌, arith}
-use Rattle.core.specs.List.{cons_option, slice_index_or}
+use Rattle.std.proofs.Common.{◌≡◌, ◌<◌, ℕ, zero, suc, List, [], ◌∷◌, ◌++◌, Option, Some, None, IsSome, refl, sym, ap, subst, arith}
 use Rattle.std.proofs.lemmas.List.Elements.{All-head, All-tail}
 use Rattle.std.specs.FinMap.{get}
-use Rattle.primitives.specs.declared.entry.Entry.{Entry}
 use Rattle.tile_records.specs.declared.slots.Held.{Held}
 use Rattle.tile_records.specs.Interning.{Interning, AreHeld, entry_of, entry_at, entries_under}
-use Rattle.tile_records.specs.Counts.{times, IsRaised, IsAcquired, Suffices, Covers, Moves}
-use Rattle.tile_records.specs.Laws.{StayHeld, HeldStay, ClaimedStay, CoveredAreHeld}
+use Rattle.tile_records.specs.Counts.{times, IsRaised, Suffices}
+use Rattle.tile_records.specs.Laws.{HeldStay, ClaimedStay, CoveredAreHeld}
 use Rattle.tile_records.proofs.Holding.{times_append}
 use Rattle.tile_records.proofs.Interns.{named_first, named_later, by_named, all_held}
 
@@ -38,7 +36,9 @@ held_named m (k ∷ ks) h q n =
 entries_along : (old new : Interning) (ks : List ℕ) → ((q : ℕ) → 0 < times q ks → entry_at new q ≡ entry_at old q) → entries_under new ks ≡ entries_under old ks
 entries_along old new [] f = refl
 entries_along old new (k ∷ ks) f =
-    ap₂ (λ (o : Option Entry) (l : List Entry). cons_option o l) (f k (named_first k ks)) (entries_along old new ks (λ q h. f q (named_later q k ks h)))
+    let first = f k (named_first k ks) in
+    let later = entries_along old new ks (λ q h. f q (named_later q k ks h)) in
+    cc
 
 pub held_stay : HeldStay
 held_stay old new ids ks a h = record {

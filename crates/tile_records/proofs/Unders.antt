@@ -1,9 +1,8 @@
 -- The entries of ids, one after another.
-use Rattle.std.proofs.Common.{◌≡◌, ◌<◌, ◌≤◌, ◌+◌, ◌-◌, ◌==◌, ℕ, zero, suc, Bool, true, false, List, [], ◌∷◌, ◌++◌, reverse, length, take, drop, get_or, map, All, IsSome, Option, Some, None, if◌then◌else◌, refl, sym, ap, ap₂, subst, ◌∙◌, true≢false, arith}
-use Rattle.std.specs.Prelude.{filter_map}
+use Rattle.std.proofs.Common.{◌≡◌, ◌<◌, ◌≤◌, ◌+◌, ◌==◌, ℕ, zero, suc, Bool, true, false, List, [], ◌∷◌, ◌++◌, reverse, length, drop, get_or, IsSome, Option, Some, None, if◌then◌else◌, refl, sym, ap, ap₂, ◌∙◌, true≢false, arith}
 use Rattle.std.proofs.lemmas.Bool.Decides.{nat_tests}
-use Rattle.std.proofs.lemmas.List.{drop_more, drop_all, reverse-append, reverse-reverse, length-reverse, take-append-le}
-use Rattle.std.proofs.lemmas.List.Elements.{All-head, All-tail, All-drop, All-append, All-cons, All-nil}
+use Rattle.std.proofs.lemmas.List.{drop_more, drop_all, reverse-append}
+use Rattle.std.proofs.lemmas.List.Elements.{All-head, All-tail}
 use Rattle.std.specs.FinMap.{get}
 use Rattle.wr_geom.specs.Bounds.{Bounds}
 use Rattle.primitives.specs.Stacks.{balanced}
@@ -12,7 +11,7 @@ use Rattle.primitives.specs.declared.entry.Entry.TheVariants as entry
 use Rattle.tile_records.specs.declared.id.Id.{Id}
 use Rattle.tile_records.specs.declared.slots.Held.{Held}
 use Rattle.tile_records.specs.Interning.{Interning, AreHeld, IsDistinct, entry_of, entry_at, entries_under, ids_keys}
-use Rattle.tile_records.specs.Dirt.{Pair, same_entry, same_id, no_id, rests, reversed, fronts, middles, extent_from, dirt_between, dirt, depth_after, extended, SharedPrefix}
+use Rattle.tile_records.specs.Dirt.{Pair, same_entry, same_id, no_id, rests, extent_from, depth_after, extended}
 
 -- the entries of ids
 abbrev pub under : Interning → List Id → List Entry

@@ -1,4 +1,4 @@
-use Rattle.std.proofs.Common.{List, ap, subst, sym, ◌∙◌, length, map}
+use Rattle.std.proofs.Common.{List, ap, subst, sym, ◌∙◌, length}
 use Rattle.std.proofs.lemmas.List.{length-map}
 use Rattle.tile_records.specs.declared.id.Id.{Id}
 use Rattle.tile_records.specs.Interning.{ids_keys}

@@ -1,5 +1,5 @@
 use Rattle.std.proofs.Common.{◌∙◌, refl, get_or}
-use Rattle.tile_records.specs.Passing.{views, keys_of_records}
+use Rattle.tile_records.specs.Passing.{keys_of_records}
 use Rattle.tile_records.proofs.Leavings.{leave_each, leave_known, leave_all}
 use Rattle.tile_records.proofs.pass.leave.Goals as goal
 

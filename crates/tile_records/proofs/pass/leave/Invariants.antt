@@ -1,5 +1,5 @@
 use Rattle.std.proofs.Common.{◌≡◌, length, get_or, drop, ℕ, Contains}
-use Rattle.tile_records.specs.Passing.{views, keys_of_records}
+use Rattle.tile_records.specs.Passing.{keys_of_records}
 use Rattle.tile_records.specs.Passing.{closed, tile_among}
 use Rattle.tile_records.proofs.pass.leave.Given as goal
 

@@ -1,7 +1,6 @@
 use Rattle.std.proofs.Common.{ℕ, List, ◌∷◌, ◌+◌, ◌≡◌, ◌<◌, ◌≤◌, length, drop, get_or, subst, ap, sym, ◌∙◌, arith}
 use Rattle.std.proofs.lemmas.List.{drop_more, drop_all}
 use Rattle.primitives.specs.declared.entry.Entry.{Entry}
-use Rattle.tile_records.specs.declared.id.Id.{Id}
 use Rattle.tile_records.specs.Dirt.{no_id}
 use Rattle.tile_records.specs.Interning.{ids_keys}
 use Rattle.tile_records.specs.Passing.{IsFresh, HasPassed, state}

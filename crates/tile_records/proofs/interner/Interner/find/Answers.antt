@@ -1,4 +1,4 @@
-use Rattle.std.proofs.Common.{◌≢◌, ℕ, Some, subst, sym, ap, ◌∙◌}
+use Rattle.std.proofs.Common.{sym, ap, ◌∙◌}
 use Rattle.tile_records.specs.Interning.{Interning, entry_at}
 use Rattle.tile_records.proofs.Tied.{tied_absent}
 use Rattle.tile_records.proofs.interner.Interner.find.Goals as goal

@@ -1,5 +1,5 @@
 use Rattle.std.proofs.Common.{◌≡◌, [], replicate}
-use Rattle.tile_records.specs.Passing.{views, keys_of_records}
+use Rattle.tile_records.specs.Passing.{keys_of_records}
 use Rattle.tile_records.proofs.pass.Pass.new.Given as goal
 
 abbrev pub invariant-loop : goal.invariant-loop

@@ -1,5 +1,5 @@
 use Rattle.tile_records.specs.Passing.{state}
-use Rattle.tile_records.specs.Passing.{views, keys_of_records}
+use Rattle.tile_records.specs.Passing.{views}
 use Rattle.std.proofs.Common.{[]}
 use Rattle.tile_records.proofs.GroupSteps.{open_law, views_push}
 use Rattle.tile_records.proofs.pass.Pass.open_group.Goals as goal
