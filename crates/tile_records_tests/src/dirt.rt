@@ -12,12 +12,7 @@ use tile_records::{Interner, dirty, holding_laws, is_balanced, make_record};
 use wr_geom::{NoMemory, Rect};
 
 /// The dirt of two lists in a tile.
-fn dirt(
-    interner: &mut Interner,
-    old: &[Entry],
-    new: &[Entry],
-    tile: Rect,
-) -> Result<Rect, NoMemory>
+fn dirt(interner: &mut Interner, old: &[Entry], new: &[Entry], tile: Rect) -> Result<Rect, NoMemory>
     requires old { IsTrue (balanced 0 old.now) }
     requires new { IsTrue (balanced 0 new.now) }
 {
@@ -36,12 +31,7 @@ fn dirt_of(alloc: Global, old: &[Step], new: &[Step]) -> Result<Option<Rect>, No
     }
     let mut interner = Interner::new(alloc);
     let tile = rect(0, 0, 64, 64);
-    Ok(Some(dirt(
-        &mut interner,
-        old.as_slice(),
-        new.as_slice(),
-        tile,
-    )?))
+    Ok(Some(dirt(&mut interner, old.as_slice(), new.as_slice(), tile)?))
 }
 
 #[test]
@@ -91,9 +81,15 @@ fn what_both_begin_and_end_with_is_left_off(rt: HostRuntime) -> Result<(), Fail>
 
 #[test]
 fn a_group_that_comes_twice(rt: HostRuntime) -> Result<(), Fail> {
-    let solid = Solid(rect(5, 5, 9, 9));
-    let old = [Push(9), solid, Pop];
-    let new = [Push(9), solid, Pop, Push(9), solid, Pop];
+    let old = [Push(9), Solid(rect(5, 5, 9, 9)), Pop];
+    let new = [
+        Push(9),
+        Solid(rect(5, 5, 9, 9)),
+        Pop,
+        Push(9),
+        Solid(rect(5, 5, 9, 9)),
+        Pop,
+    ];
     let dirt = dirt_of(rt.alloc(), &old, &new)?;
     assert_eq!(rt; dirt, Some(rect(5, 5, 9, 9)));
     Ok(())
@@ -101,19 +97,18 @@ fn a_group_that_comes_twice(rt: HostRuntime) -> Result<(), Fail> {
 
 #[test]
 fn an_opacity_that_changes_is_the_whole_tile(rt: HostRuntime) -> Result<(), Fail> {
-    let solid = Solid(rect(0, 0, 4, 4));
-    let old = [Push(128), solid, Pop];
-    let new = [Push(64), solid, Pop];
+    let old = [Push(128), Solid(rect(0, 0, 4, 4)), Pop];
+    let new = [Push(64), Solid(rect(0, 0, 4, 4)), Pop];
+    let alone = [Solid(rect(0, 0, 4, 4))];
     assert_eq!(rt; dirt_of(rt.alloc(), &old, &new)?, Some(rect(0, 0, 64, 64)));
-    assert_eq!(rt; dirt_of(rt.alloc(), &[solid], &new)?, Some(rect(0, 0, 4, 4)));
+    assert_eq!(rt; dirt_of(rt.alloc(), &alone, &new)?, Some(rect(0, 0, 4, 4)));
     Ok(())
 }
 
 #[test]
 fn an_image_that_is_updated(rt: HostRuntime) -> Result<(), Fail> {
-    let below = Solid(rect(0, 0, 9, 9));
-    let old = [below, Image(rect(40, 60, 56, 76), 1)];
-    let new = [below, Image(rect(40, 60, 56, 76), 2)];
+    let old = [Solid(rect(0, 0, 9, 9)), Image(rect(40, 60, 56, 76), 1)];
+    let new = [Solid(rect(0, 0, 9, 9)), Image(rect(40, 60, 56, 76), 2)];
     let dirt = dirt_of(rt.alloc(), &old, &new)?;
     assert_eq!(rt; dirt, Some(rect(40, 60, 56, 64)));
     Ok(())
@@ -130,10 +125,20 @@ fn a_glyph_at_another_position(rt: HostRuntime) -> Result<(), Fail> {
 
 #[test]
 fn slices_that_are_exchanged(rt: HostRuntime) -> Result<(), Fail> {
-    let one = [Solid(rect(0, 0, 9, 9)), Push(9), Solid(rect(20, 20, 30, 24)), Pop];
+    let one = [
+        Solid(rect(0, 0, 9, 9)),
+        Push(9),
+        Solid(rect(20, 20, 30, 24)),
+        Pop,
+    ];
     let other = [Image(rect(10, 2, 12, 40), 1)];
-    let dirt = Some(rect(0, 0, 30, 40));
-    assert_eq!(rt; dirt_of(rt.alloc(), &one, &other)?, dirt);
-    assert_eq!(rt; dirt_of(rt.alloc(), &other, &one)?, dirt);
+    assert_eq!(rt;
+        dirt_of(rt.alloc(), &one, &other)?,
+        Some(rect(0, 0, 30, 40))
+    );
+    assert_eq!(rt;
+        dirt_of(rt.alloc(), &other, &one)?,
+        Some(rect(0, 0, 30, 40))
+    );
     Ok(())
 }

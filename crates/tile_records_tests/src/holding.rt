@@ -112,15 +112,14 @@ fn agrees_for_long(interner: &mut Interner, entries: &[Entry]) -> Result<bool, N
 
 /// Twelve entries, some of which differ little.
 fn twelve(alloc: Global) -> Result<Vec<Entry>, NoMemory> {
-    let place = rect(0, 0, 8, 8);
     let steps = [
-        Solid(place),
+        Solid(rect(0, 0, 8, 8)),
         Solid(rect(0, 0, 8, 9)),
         Solid(rect(-1, 0, 8, 8)),
-        Image(place, 1),
-        Image(place, 2),
-        Text(place, 1),
-        Text(place, 2),
+        Image(rect(0, 0, 8, 8), 1),
+        Image(rect(0, 0, 8, 8), 2),
+        Text(rect(0, 0, 8, 8), 1),
+        Text(rect(0, 0, 8, 8), 2),
         Push(0),
         Push(1),
         Push(255),

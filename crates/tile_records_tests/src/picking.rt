@@ -27,12 +27,7 @@ fn stands_for(interner: &Interner, record: &TileRecord, wanted: &[Entry]) -> boo
 }
 
 /// Whether just these steps are picked of all for a tile.
-fn are_picked(
-    alloc: Global,
-    all: &[Step],
-    tile: Rect,
-    wanted: &[Step],
-) -> Result<bool, NoMemory> {
+fn are_picked(alloc: Global, all: &[Step], tile: Rect, wanted: &[Step]) -> Result<bool, NoMemory> {
     let all = entries(alloc, all)?;
     let wanted = entries(alloc, wanted)?;
     if !is_balanced(all.as_slice()) {
@@ -67,20 +62,19 @@ fn tiles_are_picked_up_to_their_edges(rt: HostRuntime) -> Result<(), Fail> {
 
 #[test]
 fn groups_without_a_primitive_are_left_out(rt: HostRuntime) -> Result<(), Fail> {
-    let solid = Solid(rect(0, 0, 4, 4));
     let all = [
         Push(1),
         Push(2),
         Pop,
         Push(3),
-        solid,
+        Solid(rect(0, 0, 4, 4)),
         Pop,
         Push(4),
         Solid(rect(80, 0, 84, 4)),
         Pop,
         Pop,
     ];
-    let wanted = [Push(1), Push(3), solid, Pop, Pop];
+    let wanted = [Push(1), Push(3), Solid(rect(0, 0, 4, 4)), Pop, Pop];
     assert!(rt; are_picked(rt.alloc(), &all, rect(0, 0, 64, 64), &wanted)?);
     Ok(())
 }

@@ -104,8 +104,14 @@ fn steps_are_given_up(alloc: Global, steps: &[Step]) -> Result<bool, NoMemory> {
 
 #[test]
 fn records_that_are_given_up_leave_nothing(rt: HostRuntime) -> Result<(), Fail> {
-    let solid = Solid(rect(0, 0, 4, 4));
-    let steps = [Push(9), solid, Pop, Push(9), solid, Pop];
+    let steps = [
+        Push(9),
+        Solid(rect(0, 0, 4, 4)),
+        Pop,
+        Push(9),
+        Solid(rect(0, 0, 4, 4)),
+        Pop,
+    ];
     assert!(rt; steps_are_given_up(rt.alloc(), &steps)?);
     Ok(())
 }
