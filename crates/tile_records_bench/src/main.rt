@@ -38,7 +38,10 @@ fn time(
     let each = spent.checked_div(entries.len() as u128).unwrap_or(0);
     let tile = spent.checked_div(records.len() as u128).unwrap_or(0);
     let ids = ids_of(records.as_slice());
-    println!(rt; "{} entries, {name}: {each} ns an entry, {tile} ns a tile, {ids} ids", entries.len())?;
+    println!(rt;
+        "{} entries, {name}: {each} ns an entry, {tile} ns a tile, {ids} ids",
+        entries.len()
+    )?;
     Ok(records)
 }
 
