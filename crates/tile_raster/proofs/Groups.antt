@@ -1,5 +1,5 @@
 -- Groups of a level: their Push, and what they leave.
-use Rattle.std.proofs.Common.{◌≡◌, ℕ, zero, suc, ◌+◌, ◌^◌, ◌<◌, ℤ, Bool, true, false, if◌then◌else◌, leb, Option, Some, None, List, ◌∷◌, drop, refl, sym, ap, subst, arith}
+use Rattle.std.proofs.Common.{◌≡◌, ℕ, zero, suc, ◌+◌, ◌^◌, ℤ, pos, ◌<ℤ◌, Bool, true, false, if◌then◌else◌, leb, Option, Some, None, List, ◌∷◌, drop, refl, sym, ap, subst, arith}
 use Rattle.std.proofs.lemmas.Bool.{leb-false}
 use Rattle.std.proofs.lemmas.Int.{ints}
 use Rattle.wr_geom.specs.Bounds.{Bounds, holds}
@@ -47,10 +47,10 @@ pub above_start : (f : ℕ → Px → Px) (i : ℕ) (cover : Depths) (k : ℕ) (
 above_start f i cover k d = ap (λ (b : Bool). if b then f k d else d) (at_most_start i (depth_at cover k))
 
 -- the pixels of a row lie in the rectangle of all coordinates
-in_everywhere : (first : Point) (k : ℕ) → IsFirst first → k < 2 ^ 16 → holds everywhere (x_of first k) first.y ≡ true
-in_everywhere first k is h = holds_at everywhere (x_of first k) first.y (omega (arith, ints, is.left)) (omega (arith, ints, is.right, h)) (omega (arith, ints, is.top)) (omega (arith, ints, is.bottom))
+in_everywhere : (first : Point) (k : ℕ) → IsFirst first → x_of first k <ℤ pos (2 ^ 29) → holds everywhere (x_of first k) first.y ≡ true
+in_everywhere first k is h = holds_at everywhere (x_of first k) first.y (omega (arith, ints, is.left)) (omega (arith, ints, h)) (omega (arith, ints, is.top)) (omega (arith, ints, is.bottom))
 
 -- beside the rectangle of a group's clips they leave nothing
-pub nothing_beside : (clips : List Clip) (shown : Bounds) (first : Point) (k : ℕ) → shown ≡ cut_by everywhere clips → IsFirst first → k < 2 ^ 16 → holds shown (x_of first k) first.y ≡ false → coverage_at clips first k ≡ 0
+pub nothing_beside : (clips : List Clip) (shown : Bounds) (first : Point) (k : ℕ) → shown ≡ cut_by everywhere clips → IsFirst first → x_of first k <ℤ pos (2 ^ 29) → holds shown (x_of first k) first.y ≡ false → coverage_at clips first k ≡ 0
 nothing_beside clips shown first k e is h n =
     beside_cut everywhere clips 255 (x_of first k) first.y (omega arith) (in_everywhere first k is h) (subst (λ (b : Bounds). holds b (x_of first k) first.y ≡ false) e n)

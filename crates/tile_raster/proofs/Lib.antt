@@ -10,3 +10,4 @@ pub mod Entries
 pub mod Groups
 pub mod Wide
 pub mod Windows
+pub mod Held

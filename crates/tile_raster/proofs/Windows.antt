@@ -3,8 +3,8 @@ use Rattle.std.proofs.Common.{◌≡◌, ◌≢◌, ℕ, ◌+◌, ◌*◌, ◌<�
 use Rattle.std.proofs.lemmas.Int.{ints, by_lt_z}
 use Rattle.std.proofs.lemmas.List.{get_or-take, length-take-le}
 use Rattle.std.specs.Option.{option_map_or}
-use Rattle.wr_geom.specs.Bounds.{Bounds, holds, width_of, height_of, area_of, Covers, HasNoPoint}
-use Rattle.wr_geom.proofs.Points.{IsInside, inside, holds_it, misses_it}
+use Rattle.wr_geom.specs.Bounds.{Bounds, IsRect, holds, width_of, height_of, area_of, Covers, HasNoPoint}
+use Rattle.wr_geom.proofs.Points.{IsInside, inside, holds_it, misses_it, area_none}
 use Rattle.blend_rules.specs.Planes.{channel}
 use Rattle.blend_rules.specs.declared.colour.Px.{Px}
 use Rattle.blend_rules.specs.declared.plane.Plane.{Plane}
@@ -20,6 +20,7 @@ use Rattle.tile_store.proofs.Listed.{changed_id, changed_twice, tile_in}
 use Rattle.tile_store.proofs.Pixels.{row_written}
 use Rattle.tile_store.proofs.Ready.{IsWithin, within, tile_written}
 use Rattle.tile_raster.specs.Rows.{LineModel, IsLine, line_plane, width, pixel}
+use Rattle.tile_raster.specs.Spans.{IsFirst}
 use Rattle.tile_raster.specs.Windows.{first_rows, IsRedrawn, IsWindowDrawn, IsWindowDrawnTo, with_window_line}
 use Rattle.tile_raster.proofs.Planes.{b≢g, b≢r, b≢a, g≢r, g≢a, r≢a}
 
@@ -278,3 +279,34 @@ closed_drawn {N} old ready drawn new window f start d end down = record {
   store = end ∙ ap (λ (s : StoreModel N). let c : StoreModel N = record s { window = None } in c) d.store
       ∙ ap (λ (s : StoreModel N). let c : StoreModel N = record { tiles = changed_at window.key d.change s.tiles; window = None; opened = s.opened } in c) start;
 }
+
+-- ---- where rows lie
+
+-- the first pixel of a row of a rectangle is one that a row can begin with
+pub row_first : (rect : Bounds) (i : ℕ) → IsRect rect → rect.y0 <ℤ rect.y1 → i < height_of rect → IsFirst (record { x = rect.x0; y = rect.y0 +ℤ pos i })
+row_first rect i is down h =
+    let left = is.in_range.left in
+    let top = is.in_range.top in
+    let bottom = is.in_range.bottom in
+    record {
+      left = left.low;
+      right = left.high;
+      top = omega (arith, ints, top.low);
+      bottom = omega (arith, ints, bottom.high, down, h);
+    }
+
+-- a row ends no later than coordinates of rectangles do
+pub row_reach : (rect : Bounds) → IsRect rect → (rect.x0 +ℤ pos (width_of rect)) ≤ℤ pos (2 ^ 29)
+row_reach rect is = let right = is.in_range.right in omega (arith, ints, is.across, right.high)
+
+-- ---- an empty window
+
+pub nothing_drawn : {N : Type 0} (old : StoreModel N) (window : Window) (f : ℤ → ℤ → Px) → IsRect window.rect → HasNoPoint window.rect → old.window ≡ None → old.opened < 2 ^ 64 → IsWindowDrawn old old window f
+nothing_drawn old window f is none closed fits =
+    let area : area_of window.rect ≡ 0 = (area_none window.rect is).1 none in
+    let same : old.opened ≡ opened_after old.opened (area_of window.rect) = omega (arith, area, fits) in
+    record {
+      change = λ t. t;
+      tile = λ before e. record { same_rect = refl; same_note = refl; inside = λ p x z i. absurd (true≢false (sym i ∙ none x z)); outside = λ p x z i o. refl };
+      store = λ i. record { tiles = sym (changed_id window.key old.tiles) i; window = closed i; opened = same i };
+    }

@@ -1,3 +1,4 @@
+pub mod Lists
 pub mod Drawing
 pub mod Levels
 pub mod Rows

@@ -13,6 +13,7 @@ use Rattle.primitives.specs.declared.entry.Entry.TheVariants as entry
 use Rattle.tile_raster.specs.declared.note.Note.{Note}
 use Rattle.tile_raster.specs.declared.note.Noted.{Noted}
 use Rattle.tile_raster.specs.declared.note.Drawing.{Drawing}
+use Rattle.tile_raster.specs.Lists.{entries_of, IsEntryList}
 use Rattle.tile_raster.specs.Levels.{IsAt, StaysWithin, IsGroupEnd}
 
 -- the rectangle of all coordinates
@@ -52,11 +53,12 @@ AreNotes store es notes = (i : ℕ) (d : Note) → i < length notes → i < leng
 
 -- entries that can be drawn with what is stored, and notes on the first of them
 pub record IsDrawing (d : Drawing) : Type 0 where
-  pub few : length d.entries.now < 2 ^ 32
-  pub balanced : IsAt d.entries.now 0 0
-  pub entries : All IsEntry d.entries.now
+  pub list : IsEntryList d.entries
+  pub few : length (entries_of d.entries) < 2 ^ 32
+  pub balanced : IsAt (entries_of d.entries) 0 0
+  pub entries : All IsEntry (entries_of d.entries)
   pub store : IsStore d.store.now
-  pub notes : AreNotes d.store.now d.entries.now d.notes.now
+  pub notes : AreNotes d.store.now (entries_of d.entries) d.notes.now
 
 -- a primitive with a note on it
 pub record IsNoted (t : Noted) : Type 0 where

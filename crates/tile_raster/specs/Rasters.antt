@@ -10,6 +10,7 @@ use Rattle.tile_raster.specs.declared.note.Drawing.{Drawing}
 use Rattle.tile_raster.specs.declared.level.Level.{Level}
 use Rattle.tile_raster.specs.declared.level.LevelRows.{LevelRows}
 use Rattle.tile_raster.specs.declared.level.Tools.{Tools}
+use Rattle.tile_raster.specs.Lists.{entries_of}
 use Rattle.tile_raster.specs.Levels.{IsAt, StaysWithin, IsBegun}
 use Rattle.tile_raster.specs.Rows.{LineModel, width, pixel, IsIn}
 use Rattle.tile_raster.specs.Spans.{x_of, coverage_at, HoldsPixel}
@@ -58,7 +59,7 @@ pub record IsLevel (es : List Entry) (l : Level) : Type 0 where
 -- each pixel of a strip has what the level's entries before a position give, or those up to an opaque primitive behind that
 abbrev pub AreBegun : Drawing → Level → Strip → ℕ → Depths → LineModel → Type 0
 AreBegun d l s at cover row = (k : ℕ) → IsIn s.span k
-    → IsBegun d.store.now d.entries.now l.depth l.from l.to at (x_of s.first k) s.first.y (start_at cover k) (pixel row k)
+    → IsBegun d.store.now (entries_of d.entries) l.depth l.from l.to at (x_of s.first k) s.first.y (start_at cover k) (pixel row k)
 
 -- ---- scratch
 

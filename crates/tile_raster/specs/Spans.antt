@@ -10,11 +10,11 @@ use Rattle.tile_raster.specs.declared.span.Span.{Span}
 use Rattle.tile_raster.specs.declared.strip.Strip.{Strip}
 use Rattle.tile_raster.specs.Rows.{IsSpan, IsIn}
 
--- where the first pixel of a row can lie
+-- where the first pixel of a row can lie: among the coordinates of rectangles
 pub record IsFirst (p : Point) : Type 0 where
-  pub left : neg_ℤ (pos (2 ^ 28)) ≤ℤ p.x
-  pub right : p.x ≤ℤ pos (2 ^ 28)
-  pub top : neg_ℤ (pos (2 ^ 28)) ≤ℤ p.y
+  pub left : neg_ℤ (pos (2 ^ 29)) ≤ℤ p.x
+  pub right : p.x ≤ℤ pos (2 ^ 29)
+  pub top : neg_ℤ (pos (2 ^ 29)) ≤ℤ p.y
   pub bottom : p.y <ℤ pos (2 ^ 29)
 
 -- the x of the pixel at an index of a row
@@ -24,6 +24,7 @@ x_of first k = first.x +ℤ pos k
 -- a span of a row of so many pixels, which stands in the plane
 pub record IsStrip (s : Strip) (n : ℕ) : Type 0 where
   pub first : IsFirst s.first
+  pub reach : (s.first.x +ℤ pos s.span.to) ≤ℤ pos (2 ^ 29)
   pub span : IsSpan s.span n
 
 -- how much clips leave of a row's pixel, of 255

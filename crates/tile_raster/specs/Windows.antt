@@ -10,12 +10,7 @@ use Rattle.tile_store.specs.declared.window.Window.{Window}
 use Rattle.tile_store.specs.Tiles.{IsTile, tile_at, tile_byte, changed_at}
 use Rattle.tile_store.specs.StoreModel.{StoreModel, opened_after}
 use Rattle.tile_store.specs.Windows.{with_window_row}
-use Rattle.tile_raster.specs.Drawing.{IsCorner}
 use Rattle.tile_raster.specs.Rows.{LineModel}
-
--- the first point of a rectangle can be a corner of what is drawn
-abbrev pub HasCorner : Bounds → Type 0
-HasCorner rect = IsCorner (record { x = rect.x0; y = rect.y0 })
 
 -- the first rows of a rectangle
 abbrev pub first_rows : Bounds → ℕ → Bounds

@@ -4,16 +4,17 @@
 mod lay;
 mod level;
 mod line;
+mod list;
 mod note;
 mod opaque;
 mod plane;
-mod raster;
+mod rows;
 mod scratch;
 mod span;
 mod strip;
 mod walk;
 mod window;
 
-pub use raster::draw;
+pub use rows::draw;
 pub use scratch::Scratch;
-pub use window::draw_window;
+pub use window::raster;

@@ -2,14 +2,15 @@
 
 ghost use Rattle.std.specs.Prelude.{◌≡◌, ◌↔◌, ◌≤◌, ◌<◌, ◌+◌, ◌∷◌, ℕ, IsTrue, All, length, drop, take};
 ghost use Rattle.clip_masks.specs.Clips.{IsRectClip};
-ghost use Rattle.primitives.specs.Facts.{IsEntry};
 ghost use Rattle.primitives.specs.declared.entry.Entry.TheVariants as entry;
+ghost use Rattle.tile_raster.specs.Lists.{entries_of, IsEntryList};
 ghost use Rattle.tile_raster.specs.Levels.{IsAt, StaysWithin, IsGroupEnd};
 ghost use Rattle.tile_raster.specs.Notes.{everywhere, IsGroupStart, IsNote, AreNotes, IsDrawing};
 
+use crate::list::EntryList;
 use clip_masks::{Clip, cut};
 use image_store::Store;
-use primitives::{Entry, Primitive, is_opaque, know_entry, visible};
+use primitives::{Entry, Primitive, is_opaque, visible};
 use wr_geom::{MAX_RECT_COORDINATE, Rect};
 
 /// What drawing asks of an entry in each row.
@@ -28,7 +29,7 @@ pub(crate) struct Note {
 /// The entries that are drawn with what is stored, and notes on the first of them.
 #[derive(Clone, Copy)]
 pub(crate) struct Drawing<'a> {
-    pub(crate) entries: &'a [Entry],
+    pub(crate) entries: EntryList<'a>,
     pub(crate) store: &'a Store,
     pub(crate) notes: &'a [Note],
 }
@@ -68,18 +69,19 @@ fn are_rects(clips: &[Clip]) -> bool
 }
 
 /// The position of the Pop that ends the group whose first entry stands at `from`, or the list's end.
-fn end_of(entries: &[Entry], from: usize) -> usize
-    requires { from ≤ length entries.now }
+fn end_of(entries: EntryList, from: usize) -> usize
+    requires list { IsEntryList entries }
+    requires other { from ≤ length (entries_of entries) }
     ensures left { from ≤ result }
-    ensures right { result ≤ length entries.now }
-    ensures place { (n : ℕ) → IsAt entries.now n from → IsAt entries.now n result }
-    ensures within { (n : ℕ) → IsAt entries.now n from → StaysWithin entries.now n from result }
-    ensures end { result < length entries.now → drop result entries.now ≡ entry.Pop ∷ drop (result + 1) entries.now }
+    ensures right { result ≤ length (entries_of entries.entry) }
+    ensures place { (n : ℕ) → IsAt (entries_of entries.entry) n from → IsAt (entries_of entries.entry) n result }
+    ensures within { (n : ℕ) → IsAt (entries_of entries.entry) n from → StaysWithin (entries_of entries.entry) n from result }
+    ensures end { result < length (entries_of entries.entry) → drop result (entries_of entries.entry) ≡ entry.Pop ∷ drop (result + 1) (entries_of entries.entry) }
 {
     let mut opened: usize = 0;
     let mut i = from;
     'entries: while i < entries.len() {
-        match &entries[i] {
+        match entries.at(i) {
             Entry::Primitive(_) => {}
             Entry::Push { .. } => opened += 1,
             Entry::Pop => {
@@ -95,16 +97,17 @@ fn end_of(entries: &[Entry], from: usize) -> usize
 }
 
 /// The position of the Push that opened the group whose Pop stands at `to`, or 0.
-fn start_of(entries: &[Entry], to: usize) -> usize
-    requires { to < length entries.now }
-    ensures { (n : ℕ) → drop to entries.now ≡ entry.Pop ∷ drop (to + 1) entries.now → IsAt entries.now (n + 1) to
-        → IsAt entries.now 0 0 → IsGroupStart entries.now n result to }
+fn start_of(entries: EntryList, to: usize) -> usize
+    requires list { IsEntryList entries }
+    requires other { to < length (entries_of entries) }
+    ensures { (n : ℕ) → drop to (entries_of entries.entry) ≡ entry.Pop ∷ drop (to + 1) (entries_of entries.entry) → IsAt (entries_of entries.entry) (n + 1) to
+        → IsAt (entries_of entries.entry) 0 0 → IsGroupStart (entries_of entries.entry) n result to }
 {
     let mut closed: usize = 0;
     let mut i = to;
     'entries: while 0 < i {
         i -= 1;
-        match &entries[i] {
+        match entries.at(i) {
             Entry::Primitive(_) => {}
             Entry::Push { .. } => {
                 if closed == 0 {
@@ -119,12 +122,14 @@ fn start_of(entries: &[Entry], to: usize) -> usize
 }
 
 /// A note on the entry at `i`.
-fn note_of(entries: &[Entry], store: &Store, i: usize) -> Note
-    requires balanced { IsAt entries.now 0 0 }
-    requires inside { i < length entries.now }
-    ensures { IsNote store.now entries.now i result }
+fn note_of(entries: EntryList, store: &Store, i: usize) -> Note
+    requires list { IsEntryList entries }
+    requires balanced { IsAt (entries_of entries) 0 0 }
+    requires inside { i < length (entries_of entries) }
+    ensures { IsNote store.now (entries_of entries.entry) i result }
 {
-    match &entries[i] {
+    let _count = entries.len();
+    match entries.at(i) {
         Entry::Primitive(primitive) => Note {
             shown: visible(primitive),
             partner: i,
@@ -152,8 +157,8 @@ fn note_of(entries: &[Entry], store: &Store, i: usize) -> Note
 /// The note on the entry at `i`, which is found anew where none is kept.
 pub(crate) fn note_at(drawing: Drawing, i: usize) -> Note
     requires drawing { IsDrawing drawing }
-    requires inside { i < length drawing.entries.now }
-    ensures { IsNote drawing.entry.store.now drawing.entry.entries.now i result }
+    requires inside { i < length (entries_of drawing.entries) }
+    ensures { IsNote drawing.entry.store.now (entries_of drawing.entry.entries) i result }
 {
     if i < drawing.notes.len() {
         return drawing.notes[i];
@@ -172,23 +177,15 @@ pub(crate) fn blank_note() -> Note {
 }
 
 /// Writes notes on the first entries, as many as there is room for, and answers how many.
-pub(crate) fn fill_notes(entries: &[Entry], store: &Store, notes: &mut [Note]) -> usize
-    requires { IsAt entries.now 0 0 }
+pub(crate) fn fill_notes(entries: EntryList, store: &Store, notes: &mut [Note]) -> usize
+    requires list { IsEntryList entries }
+    requires other { IsAt (entries_of entries) 0 0 }
     ensures inside { result ≤ length notes.new }
-    ensures notes { AreNotes store.now entries.now (take result notes.new) }
+    ensures notes { AreNotes store.now (entries_of entries.entry) (take result notes.new) }
 {
     let count = entries.len().min(notes.len());
     for i in 0..count {
         notes[i] = note_of(entries, store, i);
     }
     count
-}
-
-/// What the types of entries keep. It does nothing.
-pub(crate) fn know_entries(entries: &[Entry])
-    ensures { All IsEntry entries.now }
-{
-    for entry in entries {
-        know_entry(entry);
-    }
 }

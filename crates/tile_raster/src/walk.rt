@@ -3,6 +3,7 @@
 ghost use Rattle.std.specs.Prelude.{◌≡◌, ◌≤◌, ◌<◌, ◌+◌, ℕ, length};
 ghost use Rattle.blend_rules.specs.Colour.{clear};
 ghost use Rattle.primitives.specs.declared.entry.Entry.TheVariants as entry;
+ghost use Rattle.tile_raster.specs.Lists.{entries_of};
 ghost use Rattle.tile_raster.specs.Levels.{IsAt, IsBelow, Begins, IsGroupEnd};
 ghost use Rattle.tile_raster.specs.Rows.{width, pixel, IsIn};
 ghost use Rattle.tile_raster.specs.Spans.{IsStrip, x_of};
@@ -31,17 +32,17 @@ fn take_top(
     tools: &mut Tools,
 ) -> usize
     requires drawing { IsDrawing drawing }
-    requires level { IsLevel drawing.entries.now level }
+    requires level { IsLevel (entries_of drawing.entries) level }
     requires some { level.from < i }
     requires order { i ≤ level.to }
-    requires place { IsAt drawing.entries.now level.depth i }
+    requires place { IsAt (entries_of drawing.entries) level.depth i }
     requires strip { IsStrip strip (width row.old) }
     requires wide { IsWide (width row.old) rows.old }
     requires tools { IsFit (width row.old) tools.old }
     requires begun { AreBegun drawing level strip level.from rows.old.cover row.old }
     ensures left { level.from ≤ result }
     ensures less { result < i }
-    ensures place { IsAt drawing.entry.entries.now level.depth result }
+    ensures place { IsAt (entries_of drawing.entry.entries) level.depth result }
     ensures begun { AreBegun drawing.entry level strip level.from rows.new.cover row.new }
     ensures width { width row.new ≡ width row.old }
     ensures wide { IsWide (width row.old) rows.new }
@@ -49,7 +50,7 @@ fn take_top(
 {
     let last = i - 1;
     let note = note_at(drawing, last);
-    match &drawing.entries[last] {
+    match drawing.entries.at(last) {
         Entry::Primitive(primitive) => {
             if note.is_opaque {
                 let noted = Noted {
@@ -84,7 +85,7 @@ fn take_all(
     tools: &mut Tools,
 )
     requires drawing { IsDrawing drawing }
-    requires level { IsLevel drawing.entries.now level }
+    requires level { IsLevel (entries_of drawing.entries) level }
     requires strip { IsStrip strip (width row.old) }
     requires wide { IsWide (width row.old) rows.old }
     requires tools { IsFit (width row.old) tools.old }
@@ -111,14 +112,14 @@ pub(crate) fn draw_level(
     tools: &mut Tools,
 )
     requires drawing { IsDrawing drawing }
-    requires level { IsLevel drawing.entries.now level }
-    requires below { IsBelow drawing.entries.now (level.depth + length levels.old) }
+    requires level { IsLevel (entries_of drawing.entries) level }
+    requires below { IsBelow (entries_of drawing.entries) (level.depth + length levels.old) }
     requires room { level.depth + length levels.old ≤ 65 }
     requires strip { IsStrip strip (width row.old) }
     requires wide { AreWide (width row.old) levels.old }
     requires tools { IsFit (width row.old) tools.old }
     ensures run { (k : ℕ) → IsIn strip.span k
-        → Begins drawing.entry.store.now drawing.entry.entries.now level.from level.to (x_of strip.first k) strip.first.y (pixel row.new k) }
+        → Begins drawing.entry.store.now (entries_of drawing.entry.entries) level.from level.to (x_of strip.first k) strip.first.y (pixel row.new k) }
     ensures width { width row.new ≡ width row.old }
     ensures levels { length levels.new ≡ length levels.old }
     ensures wide { AreWide (width row.old) levels.new }
@@ -148,11 +149,11 @@ fn draw_top(
     tools: &mut Tools,
 ) -> usize
     requires drawing { IsDrawing drawing }
-    requires level { IsLevel drawing.entries.now level }
+    requires level { IsLevel (entries_of drawing.entries) level }
     requires from { level.from ≤ i }
     requires order { i < level.to }
-    requires place { IsAt drawing.entries.now level.depth i }
-    requires below { IsBelow drawing.entries.now (level.depth + 1 + length deeper.old) }
+    requires place { IsAt (entries_of drawing.entries) level.depth i }
+    requires below { IsBelow (entries_of drawing.entries) (level.depth + 1 + length deeper.old) }
     requires room { level.depth + 1 + length deeper.old ≤ 65 }
     requires strip { IsStrip strip (width row.old) }
     requires wide { IsWide (width row.old) rows.old }
@@ -161,7 +162,7 @@ fn draw_top(
     requires begun { AreBegun drawing level strip i rows.old.cover row.old }
     ensures more { i < result }
     ensures right { result ≤ level.to }
-    ensures place { IsAt drawing.entry.entries.now level.depth result }
+    ensures place { IsAt (entries_of drawing.entry.entries) level.depth result }
     ensures begun { AreBegun drawing.entry level strip result rows.new.cover row.new }
     ensures width { width row.new ≡ width row.old }
     ensures wide { IsWide (width row.old) rows.new }
@@ -170,7 +171,7 @@ fn draw_top(
     ensures tools { IsFit (width row.old) tools.new }
 {
     let note = note_at(drawing, i);
-    match &drawing.entries[i] {
+    match drawing.entries.at(i) {
         Entry::Primitive(primitive) => {
             let noted = Noted {
                 primitive,
@@ -204,13 +205,13 @@ fn draw_group(
     tools: &mut Tools,
 )
     requires drawing { IsDrawing drawing }
-    requires level { IsLevel drawing.entries.now level }
+    requires level { IsLevel (entries_of drawing.entries) level }
     requires from { level.from ≤ i }
     requires order { i < level.to }
-    requires place { IsAt drawing.entries.now level.depth i }
-    requires note { IsNote drawing.store.now drawing.entries.now i note }
-    requires end { IsGroupEnd drawing.entries.now level.depth i note.partner }
-    requires below { IsBelow drawing.entries.now (level.depth + 1 + length deeper.old) }
+    requires place { IsAt (entries_of drawing.entries) level.depth i }
+    requires note { IsNote drawing.store.now (entries_of drawing.entries) i note }
+    requires end { IsGroupEnd (entries_of drawing.entries) level.depth i note.partner }
+    requires below { IsBelow (entries_of drawing.entries) (level.depth + 1 + length deeper.old) }
     requires room { level.depth + 1 + length deeper.old ≤ 65 }
     requires strip { IsStrip strip (width row.old) }
     requires wide { IsWide (width row.old) rows.old }
@@ -230,7 +231,7 @@ fn draw_group(
         opacity,
         mode,
         clips,
-    } = &drawing.entries[i]
+    } = drawing.entries.at(i)
     else {
         unreachable!();
     };

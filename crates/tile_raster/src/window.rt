@@ -1,4 +1,4 @@
-//! Entries, drawn into a part of a kept tile.
+//! A tile's record, drawn into a part of the tile.
 
 ghost use Rattle.std.specs.Prelude.{◌≡◌, ◌≤◌, ◌<◌, ◌+◌, ◌^◌, ◌+ℤ◌, ◌<ℤ◌, pos, ℕ, None, Some, length, take, IsTrue};
 ghost use Rattle.wr_geom.specs.Bounds.{IsRect, width_of, height_of};
@@ -6,24 +6,27 @@ ghost use Rattle.primitives.specs.Stacks.{balanced, is_shallow, value_at};
 ghost use Rattle.tile_store.specs.Tiles.{tile_at, HasTileSides};
 ghost use Rattle.tile_store.specs.StoreModel.{LiesInTile};
 ghost use Rattle.tile_store.specs.Windows.{HasWindowRow, window_width, with_window_row};
+ghost use Rattle.tile_records.specs.Interning.{AreHeld, entries_under, ids_keys, record_keys};
+ghost use Rattle.tile_raster.specs.Lists.{entries_of};
 ghost use Rattle.tile_raster.specs.Levels.{IsBelow};
 ghost use Rattle.tile_raster.specs.Notes.{IsDrawing};
 ghost use Rattle.tile_raster.specs.Rasters.{AreWide, IsFit};
 ghost use Rattle.tile_raster.specs.Rows.{width};
 ghost use Rattle.tile_raster.specs.Spans.{IsFirst};
-ghost use Rattle.tile_raster.specs.Windows.{HasCorner, IsWindowDrawn, IsWindowDrawnTo, with_window_line};
+ghost use Rattle.tile_raster.specs.Windows.{IsWindowDrawn, IsWindowDrawnTo, with_window_line};
 
 use crate::level::{LevelRows, Tools};
 use crate::line::Line;
-use crate::note::{Drawing, fill_notes, know_entries};
-use crate::raster::{draw_row, first_of};
+use crate::list::EntryList;
+use crate::note::{Drawing, fill_notes};
+use crate::rows::{draw_row, first_of};
 use crate::scratch::Scratch;
 use blend_rules::Plane;
 use image_store::Store;
-use primitives::Entry;
 use span_kernels::copy;
+use tile_records::{Id, Interner, TileRecord};
 use tile_store::{TileStore, Window, know_store};
-use wr_geom::{Point, Rect};
+use wr_geom::{Point, Rect, TileKey};
 
 /// Writes the first bytes of a row into one plane of a row of the open window, as many as that has.
 fn put_window_plane<R: Drop>(bytes: &[u8], p: Plane, y: i32, count: u16, tiles: &mut TileStore<R>)
@@ -80,15 +83,14 @@ fn draw_window_rows<R: Drop>(
     tools: &mut Tools,
 )
     requires drawing { IsDrawing drawing }
-    requires below { IsBelow drawing.entries.now (length levels.old) }
+    requires below { IsBelow (entries_of drawing.entries) (length levels.old) }
     requires room { length levels.old ≤ 65 }
     requires window { tiles.old.window ≡ Some window }
-    requires corner { HasCorner window.rect }
     requires row { width_of window.rect ≤ width row.old }
     requires wide { AreWide (width row.old) levels.old }
     requires tools { IsFit (width row.old) tools.old }
     ensures drawn { IsWindowDrawnTo tiles.old tiles.new window (height_of window.rect)
-        (value_at drawing.entry.entries.now drawing.entry.store.now) }
+        (value_at (entries_of drawing.entry.entries) drawing.entry.store.now) }
     ensures rect { IsRect window.rect }
     ensures row { width row.new ≡ width row.old }
     ensures levels { length levels.new ≡ length levels.old }
@@ -110,28 +112,32 @@ fn draw_window_rows<R: Drop>(
     }
 }
 
-/// Draws entries into a rectangle of a kept tile, with what is stored now, through one window of the tile. Every other
-/// byte of every tile stays. It takes no memory. The entries are balanced in pushes and pops, nest at most 64 groups and
-/// are fewer than 2^32; the tile is kept, no window is open, and the rectangle lies in the tile; its first point has
-/// coordinates from -2^28 to 2^28 pixels; the scratch is at least as wide.
-pub fn draw_window<R: Drop>(
-    entries: &[Entry],
+/// Draws the entries of ids into a rectangle of a kept tile, through one window of the tile.
+fn raster_ids<R: Drop>(
+    interner: &Interner,
+    ids: &[Id],
     store: &Store,
     tiles: &mut TileStore<R>,
     window: Window,
     scratch: &mut Scratch,
 )
-    requires few { length entries.now < 2 ^ 32 }
-    requires balanced { IsTrue (balanced 0 entries.now) }
-    requires shallow { IsTrue (is_shallow 64 entries.now) }
+    requires held { AreHeld interner.now (ids_keys ids.now) }
+    requires few { length ids.now < 2 ^ 32 }
+    requires balanced { IsTrue (balanced 0 (entries_under interner.now (ids_keys ids.now))) }
+    requires shallow { IsTrue (is_shallow 64 (entries_under interner.now (ids_keys ids.now))) }
     requires closed { tiles.old.window ≡ None }
     requires inside { LiesInTile window.rect (tile_at window.key tiles.old.tiles) }
-    requires corner { HasCorner window.rect }
     requires wide { width_of window.rect ≤ scratch.old.width }
-    ensures drawn { IsWindowDrawn tiles.old tiles.new window (value_at entries.now store.now) }
+    ensures drawn { IsWindowDrawn tiles.old tiles.new window (value_at (entries_under interner.now (ids_keys ids.now)) store.now) }
     ensures scratch { scratch.new ≡ scratch.old }
 {
-    know_entries(entries);
+    let _opened = tiles.opened();
+    let _corner = corner_of(window.rect);
+    if window.rect.is_empty() {
+        return;
+    }
+    let entries = EntryList::Held { interner, ids };
+    entries.know_entries();
     image_store::know_store(store);
     let count = fill_notes(entries, store, &mut scratch.notes);
     let drawing = Drawing {
@@ -150,4 +156,33 @@ pub fn draw_window<R: Drop>(
         &mut scratch.tools,
     );
     tiles.close_window();
+}
+
+/// Draws the entries of a record into a rectangle of a kept tile, with what is stored now, through one window of the tile.
+///
+/// Every other byte of every tile stays, and so do keys, order, rectangles and notes. It takes no memory. The record's ids
+/// are held, its entries are balanced in pushes and pops, nest at most 64 groups and are fewer than 2^32; the tile is kept,
+/// no window is open, and the rectangle lies in the tile; the scratch is at least as wide as the rectangle.
+pub fn raster(
+    interner: &Interner,
+    now: &TileRecord,
+    store: &Store,
+    tiles: &mut TileStore<TileRecord>,
+    key: TileKey,
+    dirt: Rect,
+    scratch: &mut Scratch,
+)
+    requires held { AreHeld interner.now (record_keys now.now) }
+    requires few { length now.now.ids.items < 2 ^ 32 }
+    requires balanced { IsTrue (balanced 0 (entries_under interner.now (record_keys now.now))) }
+    requires shallow { IsTrue (is_shallow 64 (entries_under interner.now (record_keys now.now))) }
+    requires closed { tiles.old.window ≡ None }
+    requires inside { LiesInTile dirt (tile_at key tiles.old.tiles) }
+    requires wide { width_of dirt ≤ scratch.old.width }
+    ensures drawn { IsWindowDrawn tiles.old tiles.new (record { key = key; rect = dirt })
+        (value_at (entries_under interner.now (record_keys now.now)) store.now) }
+    ensures scratch { scratch.new ≡ scratch.old }
+{
+    let window = Window { key, rect: dirt };
+    raster_ids(interner, now.ids.as_slice(), store, tiles, window, scratch);
 }

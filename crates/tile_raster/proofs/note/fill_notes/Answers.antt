@@ -2,13 +2,14 @@ use Rattle.std.proofs.Common.{◌≡◌, ◌<◌, ◌≤◌, ℕ, length, inl, i
 use Rattle.std.proofs.lemmas.Bool.{cases_lt}
 use Rattle.std.proofs.lemmas.List.{get_or-set_other, length-set, get_or-take, length-take-le}
 use Rattle.std.proofs.lemmas.Grind.{get_or-set_at}
+use Rattle.tile_raster.specs.Lists.{entries_of}
 use Rattle.tile_raster.specs.Notes.{IsNote}
 use Rattle.tile_raster.proofs.note.fill_notes.Goals as goal
 
 pub loop-i-preserved : goal.loop-i-preserved
 loop-i-preserved c =
     let store = c.args.store.now in
-    let es = c.args.entries.now in
+    let es = (entries_of c.args.entries) in
     let notes = c.loop-i.notes in
     let i = c.loop-i.i in
     let in_notes : i < length notes = omega (arith, c.loop-i.invariant.room, c.loop-i-test.true, c.min-count.ensures) in
@@ -28,4 +29,4 @@ returns-clause-notes c i d h k =
     let count = c.min-count.result in
     let fits : count ≤ length notes = omega (arith, c.loop-i.invariant.room, c.min-count.ensures) in
     let less : i < count = omega (arith, h, length-take-le count notes fits) in
-    subst (IsNote c.args.store.now c.args.entries.now i) (sym (get_or-take count notes i d less)) (c.loop-i.invariant.done i d (omega (arith, less, c.loop-i-test.false)))
+    subst (IsNote c.args.store.now (entries_of c.args.entries) i) (sym (get_or-take count notes i d less)) (c.loop-i.invariant.done i d (omega (arith, less, c.loop-i-test.false)))

@@ -1,8 +1,10 @@
-use Rattle.std.proofs.Common.{◌≡◌, ◌<◌, ◌≤◌, ◌+◌, ◌⊎◌, ℕ, suc, length, inl, inr, sym, ap, subst, ◌∙◌, arith, leb, if◌then◌else◌, refl}
+use Rattle.std.proofs.Common.{◌≡◌, ◌<◌, ◌≤◌, ◌+◌, ◌⊎◌, ℕ, suc, length, inl, inr, ap, subst, ◌∙◌, arith, leb, if◌then◌else◌, refl}
+use Rattle.std.proofs.lemmas.Int.{ints}
 use Rattle.std.proofs.lemmas.Bool.{cases_lt}
 use Rattle.blend_rules.specs.Colour.{scaled, blended}
 use Rattle.blend_rules.specs.declared.colour.Px.{Px}
 use Rattle.clip_masks.proofs.Chains.{within_cut}
+use Rattle.tile_raster.specs.Lists.{entries_of}
 use Rattle.tile_raster.specs.Levels.{IsBegun, over_primitive, over_group}
 use Rattle.tile_raster.specs.Notes.{everywhere, IsPushNote}
 use Rattle.tile_raster.specs.Rows.{pixel, IsIn}
@@ -17,16 +19,16 @@ use Rattle.tile_raster.proofs.walk.+level.Goals as goal
 
 pub draw_group-unreachable-requires : goal.draw_group-unreachable-requires
 draw_group-unreachable-requires t c =
-    let es = c.args.drawing.entries.now in
+    let es = (entries_of c.args.drawing.entries) in
     let i = c.args.i in
     let in_list : i < length es = omega (arith, c.requires.order, c.requires.level.inside) in
-    let e = c.index-drawing-i.result in
-    let push = opens_group es c.args.level.depth i c.args.note.partner e (dropped_as es i e e in_list c.index-drawing-i.is refl) c.requires.place c.requires.end in
-    c.in_default.not-Push push.0 push.1 push.2 (sym c.index-drawing-i.is ∙ push.3)
+    let e = c.at.result.now in
+    let push = opens_group es c.args.level.depth i c.args.note.partner e (dropped_as es i e e in_list (c.at.ensures _) refl) c.requires.place c.requires.end in
+    c.in_default.not-Push push.0 push.1 push.2 push.3
 
 pub draw_group-returns-then-shown-clause-begun : goal.draw_group-returns-then-shown-clause-begun
 draw_group-returns-then-shown-clause-begun t c k h =
-    let es = c.args.drawing.entries.now in
+    let es = (entries_of c.args.drawing.entries) in
     let store = c.args.drawing.store.now in
     let l = c.args.level in
     let i = c.args.i in
@@ -35,32 +37,32 @@ draw_group-returns-then-shown-clause-begun t c k h =
     let o = c.in-Push.opacity in
     let clips = c.in-Push.clips in
     let in_list : i < length es = omega (arith, c.requires.order, c.requires.level.inside) in
-    let same = c.index-drawing-i.is ∙ c.in-Push.is in
-    let own = dropped_as es i _ _ in_list c.index-drawing-i.is same in
-    let is = entry_is es i _ _ in_list c.index-drawing-i.is same in
+    let same = c.in-Push.is in
+    let own = dropped_as es i _ _ in_list (c.at.ensures _) same in
+    let is = entry_is es i _ _ in_list (c.at.ensures _) same in
     let note : IsPushNote es i clips c.args.note = note_is store es i _ _ is c.requires.note in
     let small = fact_at es i _ c.requires.drawing.entries in_list is in
     let shown = c.cut_strip-shown.result in
     let beside : (k < shown.from) ⊎ (shown.to ≤ k) = elim (cases_lt k shown.from) [ inl less ↦ inl less | inr more ↦ inr (omega (arith, more, c.if-shown.true)) ] in
-    let none = nothing_beside clips c.args.note.shown first k note.shown c.requires.strip.first (omega (arith, h.high, c.know_span.ensures)) (c.cut_strip-shown.ensures.outside k h beside) in
+    let none = nothing_beside clips c.args.note.shown first k note.shown c.requires.strip.first (omega (arith, ints, h.high, c.requires.strip.reach)) (c.cut_strip-shown.ensures.outside k h beside) in
     begun_hidden store es l.depth l.from l.to i j (x_of first k) first.y (start_at c.args.rows.now.cover k) (pixel c.args.row.now k) (pixel c.args.row.now k) o c.in-Push.mode clips own c.requires.end
     (same_level es (suc l.depth) (l.depth + 1) (i + 1) (omega arith) (after_push es l.depth i o c.in-Push.mode clips own c.requires.place)) c.requires.drawing.store c.requires.drawing.entries small
     (c.know_pixels.ensures k) none (c.requires.begun k h) refl
 
 pub draw_group-fade_group-requires-clause-whole : goal.draw_group-fade_group-requires-clause-whole
 draw_group-fade_group-requires-clause-whole t c w k h =
-    let es = c.args.drawing.entries.now in
+    let es = (entries_of c.args.drawing.entries) in
     let i = c.args.i in
     let first = c.args.strip.first in
     let clips = c.in-Push.clips in
     let in_list : i < length es = omega (arith, c.requires.order, c.requires.level.inside) in
-    let is = entry_is es i _ _ in_list c.index-drawing-i.is (c.index-drawing-i.is ∙ c.in-Push.is) in
+    let is = entry_is es i _ _ in_list (c.at.ensures _) (c.in-Push.is) in
     let note : IsPushNote es i clips c.args.note = note_is c.args.drawing.store.now es i _ _ is c.requires.note in
     rw c.as_slice-clips.ensures (within_cut everywhere clips 255 (x_of first k) first.y (note.whole w) (rw note.shown at c.cut_strip-shown.ensures.inside k h))
 
 pub draw_group-returns-clause-begun : goal.draw_group-returns-clause-begun
 draw_group-returns-clause-begun t c k h =
-    let es = c.args.drawing.entries.now in
+    let es = (entries_of c.args.drawing.entries) in
     let store = c.args.drawing.store.now in
     let l = c.args.level in
     let i = c.args.i in
@@ -75,16 +77,16 @@ draw_group-returns-clause-begun t c k h =
     let x = x_of first k in
     let y = first.y in
     let in_list : i < length es = omega (arith, c.requires.order, c.requires.level.inside) in
-    let same = c.index-drawing-i.is ∙ c.in-Push.is in
-    let own = dropped_as es i _ _ in_list c.index-drawing-i.is same in
-    let is = entry_is es i _ _ in_list c.index-drawing-i.is same in
+    let same = c.in-Push.is in
+    let own = dropped_as es i _ _ in_list (c.at.ensures _) same in
+    let is = entry_is es i _ _ in_list (c.at.ensures _) same in
     let note : IsPushNote es i clips c.args.note = note_is store es i _ _ is c.requires.note in
     let small = fact_at es i _ c.requires.drawing.entries in_list is in
     let shown = c.cut_strip-shown.result in
     let hidden : (k < shown.from) ⊎ (shown.to ≤ k) → u ≡ d → IsBegun store es l.depth l.from l.to (j + 1) x y (start_at cover k) u = λ beside stays.
     begun_hidden store es l.depth l.from l.to i j x y (start_at cover k) d u o m clips own c.requires.end
     (same_level es (suc l.depth) (l.depth + 1) (i + 1) (omega arith) (after_push es l.depth i o m clips own c.requires.place)) c.requires.drawing.store c.requires.drawing.entries small
-    (c.know_pixels.ensures k) (nothing_beside clips c.args.note.shown first k note.shown c.requires.strip.first (omega (arith, h.high, c.know_span.ensures)) (c.cut_strip-shown.ensures.outside k h beside)) (c.requires.begun k h) stays in
+    (c.know_pixels.ensures k) (nothing_beside clips c.args.note.shown first k note.shown c.requires.strip.first (omega (arith, ints, h.high, c.requires.strip.reach)) (c.cut_strip-shown.ensures.outside k h beside)) (c.requires.begun k h) stays in
     elim (cases_lt k shown.from) [
       | inl less ↦ hidden (inl less) (c.lay_group.ensures.before k less)
       | inr low ↦ elim (cases_lt k shown.to) [
@@ -115,17 +117,17 @@ draw_level-tops-init t c = record {
 pub draw_level-returns-clause-run : goal.draw_level-returns-clause-run
 draw_level-returns-clause-run t c k h =
     let l = c.args.level in
-    begun_last c.args.drawing.store.now c.args.drawing.entries.now l.depth l.from l.to c.tops.i _ _ _ _ (omega (arith, c.tops-test.false, c.tops.invariant.right)) (c.tops.invariant.begun k h)
+    begun_last c.args.drawing.store.now (entries_of c.args.drawing.entries) l.depth l.from l.to c.tops.i _ _ _ _ (omega (arith, c.tops-test.false, c.tops.invariant.right)) (c.tops.invariant.begun k h)
 
 pub draw_top-returns-in-Primitive-clause-begun : goal.draw_top-returns-in-Primitive-clause-begun
 draw_top-returns-in-Primitive-clause-begun t c k h =
-    let es = c.args.drawing.entries.now in
+    let es = (entries_of c.args.drawing.entries) in
     let store = c.args.drawing.store.now in
     let l = c.args.level in
     let i = c.args.i in
     let first = c.args.strip.first in
     let in_list : i < length es = omega (arith, c.requires.order, c.requires.level.inside) in
-    let own = dropped_as es i _ _ in_list c.index-drawing-i.is (c.index-drawing-i.is ∙ c.in-Primitive.is) in
+    let own = dropped_as es i _ _ in_list (c.at.ensures _) (c.in-Primitive.is) in
     let q = c.in-Primitive.primitive in
     begun_primitive store es l.depth l.from l.to i (x_of first k) first.y (start_at c.args.rows.now.cover k) (pixel c.args.row.now k) (pixel c.lay_primitive.new.row k) q own (c.requires.begun k h)
     (c.lay_primitive.ensures.row.inside k h ∙ above_start (λ (n : ℕ) (z : Px). over_primitive store q (x_of first n) first.y z) i c.args.rows.now.cover k (pixel c.args.row.now k))

@@ -1,4 +1,5 @@
 use Rattle.std.proofs.Common.{◌-◌, ◌*◌, ◌+◌, ◌≤◌, ◌≡◌, length}
+use Rattle.tile_raster.specs.Lists.{entries_of}
 use Rattle.tile_raster.specs.Levels.{IsAt}
 use Rattle.tile_raster.specs.Rows.{width}
 use Rattle.tile_raster.specs.Rasters.{AreBegun, IsFit, IsWide, AreWide}
@@ -17,7 +18,7 @@ abbrev pub invariant-draw_level-tops : goal.invariant-draw_level-tops
 invariant-draw_level-tops l = record {
   left : l.level.from ≤ l.i;
   right : l.i ≤ l.level.to;
-  place : IsAt l.drawing.entries.now l.level.depth l.i;
+  place : IsAt (entries_of l.drawing.entries) l.level.depth l.i;
   begun : AreBegun l.drawing l.level l.strip l.i l.rows.cover l.row;
   row : width l.row ≡ width l.fn.row;
   wide : IsWide (width l.fn.row) l.rows;

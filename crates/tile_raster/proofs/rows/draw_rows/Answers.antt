@@ -2,12 +2,13 @@ use Rattle.std.proofs.Common.{arith, ◌≡◌, ◌<◌, inl, inr, ℕ, ℤ, pos
 use Rattle.std.proofs.lemmas.Bool.{cases_lt}
 use Rattle.primitives.specs.Stacks.{value_at}
 use Rattle.span_kernels.specs.PlanesModel.{pixel_at}
+use Rattle.tile_raster.specs.Lists.{entries_of}
 use Rattle.tile_raster.specs.Rasters.{AreWide, IsFit}
-use Rattle.tile_raster.proofs.raster.draw_rows.Goals as goal
+use Rattle.tile_raster.proofs.rows.draw_rows.Goals as goal
 
 pub loop-y-preserved : goal.loop-y-preserved
 loop-y-preserved c =
-    let es = c.args.drawing.entries.now in
+    let es = (entries_of c.args.drawing.entries) in
     let store = c.args.drawing.store.now in
     let inv = c.loop-y.invariant in
     record {

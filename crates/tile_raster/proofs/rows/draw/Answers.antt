@@ -4,7 +4,7 @@ use Rattle.tile_raster.specs.declared.note.Note.{Note}
 use Rattle.tile_raster.specs.Notes.{AreNotes}
 use Rattle.tile_raster.specs.declared.level.LevelRows.{LevelRows}
 use Rattle.tile_raster.proofs.Levels.{shallow_below}
-use Rattle.tile_raster.proofs.raster.draw.Goals as goal
+use Rattle.tile_raster.proofs.rows.draw.Goals as goal
 
 pub draw_rows-requires-clause-drawing : goal.draw_rows-requires-clause-drawing
 draw_rows-requires-clause-drawing c =
@@ -15,6 +15,7 @@ draw_rows-requires-clause-drawing c =
     let len = c.fill_notes-count.auto.notes ∙ ap (λ (l : List Note). length l) c.deref_mut.ensures.value in
     let same : c.deref.result.now ≡ new = c.deref.ensures.value ∙ with_items_is notes new (len ∙ sym notes.ok.0) in
     record {
+      list = tt;
       few = c.requires.few;
       balanced = c.requires.balanced;
       entries = c.know_entries.ensures;

@@ -4,7 +4,7 @@ use Rattle.blend_rules.specs.declared.plane.Plane.TheVariants.{B, G, R, A}
 use Rattle.blend_rules.proofs.Blends.{same_bytes}
 use Rattle.span_kernels.specs.PlanesModel.{byte_at}
 use Rattle.tile_raster.proofs.Planes.{b≢g, b≢r, b≢a, g≢r, g≢a, r≢a}
-use Rattle.tile_raster.proofs.raster.put_row.Goals as goal
+use Rattle.tile_raster.proofs.rows.put_row.Goals as goal
 
 pub returns-clause-here : goal.returns-clause-here
 returns-clause-here c k h =

@@ -1,9 +1,10 @@
 //! Entries, drawn into planes.
 
-ghost use Rattle.std.specs.Prelude.{◌≡◌, ◌≢◌, ◌≤◌, ◌<◌, ◌+◌, ◌-◌, ◌^◌, ◌+ℤ◌, pos, ℕ, length, slice_index, IsTrue};
+ghost use Rattle.std.specs.Prelude.{◌≡◌, ◌≢◌, ◌≤◌, ◌<◌, ◌+◌, ◌-◌, ◌^◌, ◌+ℤ◌, ◌≤ℤ◌, pos, ℕ, length, slice_index, IsTrue};
 ghost use Rattle.blend_rules.specs.declared.plane.Plane.{Plane};
 ghost use Rattle.primitives.specs.Stacks.{balanced, is_shallow, value_at};
 ghost use Rattle.span_kernels.specs.PlanesModel.{pixel_at, byte_at};
+ghost use Rattle.tile_raster.specs.Lists.{entries_of};
 ghost use Rattle.tile_raster.specs.Drawing.{IsCorner};
 ghost use Rattle.tile_raster.specs.Levels.{IsBelow};
 ghost use Rattle.tile_raster.specs.Rows.{width, pixel};
@@ -13,7 +14,8 @@ ghost use Rattle.tile_raster.specs.Rasters.{AreWide, IsFit};
 
 use crate::level::{Level, LevelRows, Tools};
 use crate::line::Line;
-use crate::note::{Drawing, fill_notes, know_entries};
+use crate::list::EntryList;
+use crate::note::{Drawing, fill_notes};
 use crate::plane::part_of;
 use crate::scratch::Scratch;
 use crate::span::Span;
@@ -35,13 +37,14 @@ pub(crate) fn draw_row(
     tools: &mut Tools,
 )
     requires drawing { IsDrawing drawing }
-    requires below { IsBelow drawing.entries.now (length levels.old) }
+    requires below { IsBelow (entries_of drawing.entries) (length levels.old) }
     requires room { length levels.old ≤ 65 }
     requires first { IsFirst first }
+    requires reach { (first.x +ℤ pos count) ≤ℤ pos (2 ^ 29) }
     requires count { count ≤ width row.old }
     requires wide { AreWide (width row.old) levels.old }
     requires tools { IsFit (width row.old) tools.old }
-    ensures value { (k : ℕ) → k < count → pixel row.new k ≡ value_at drawing.entry.entries.now drawing.entry.store.now (x_of first k) first.y }
+    ensures value { (k : ℕ) → k < count → pixel row.new k ≡ value_at (entries_of drawing.entry.entries) drawing.entry.store.now (x_of first k) first.y }
     ensures width { width row.new ≡ width row.old }
     ensures levels { length levels.new ≡ length levels.old }
     ensures wide { AreWide (width row.old) levels.new }
@@ -94,7 +97,7 @@ fn put_row(row: &Line, y: u16, out: &mut Planes)
 
 /// Where the first pixel of a row of planes lies.
 pub(crate) fn first_of(corner: Point, y: u16) -> Point
-    requires { IsCorner corner }
+    requires { IsFirst (record { x = corner.x; y = corner.y +ℤ pos y }) }
     ensures x { result.x ≡ corner.x }
     ensures y { result.y ≡ corner.y +ℤ pos y }
     ensures first { IsFirst result }
@@ -115,7 +118,7 @@ fn draw_rows(
     tools: &mut Tools,
 )
     requires drawing { IsDrawing drawing }
-    requires below { IsBelow drawing.entries.now (length levels.old) }
+    requires below { IsBelow (entries_of drawing.entries) (length levels.old) }
     requires room { length levels.old ≤ 65 }
     requires corner { IsCorner corner }
     requires row { out.old.width ≤ width row.old }
@@ -124,7 +127,7 @@ fn draw_rows(
     ensures width { out.new.width ≡ out.old.width }
     ensures height { out.new.height ≡ out.old.height }
     ensures value { (x y : ℕ) → x < out.new.width → y < out.new.height
-        → pixel_at out.new x y ≡ value_at drawing.entry.entries.now drawing.entry.store.now (corner.x +ℤ pos x) (corner.y +ℤ pos y) }
+        → pixel_at out.new x y ≡ value_at (entries_of drawing.entry.entries) drawing.entry.store.now (corner.x +ℤ pos x) (corner.y +ℤ pos y) }
     ensures row { width row.new ≡ width row.old }
     ensures levels { length levels.new ≡ length levels.old }
     ensures wide { AreWide (width row.old) levels.new }
@@ -159,7 +162,8 @@ pub fn draw(
         → pixel_at out.new x y ≡ value_at entries.now store.now (corner.x +ℤ pos x) (corner.y +ℤ pos y) }
     ensures scratch { scratch.new ≡ scratch.old }
 {
-    know_entries(entries);
+    let entries = EntryList::All(entries);
+    entries.know_entries();
     know_store(store);
     let count = fill_notes(entries, store, &mut scratch.notes);
     let drawing = Drawing {

@@ -1,6 +1,6 @@
 use Rattle.std.proofs.Common.{◌≡◌, ◌<◌, ◌+◌, ◌-◌, ℕ, List, length, slice_index, ap, subst, ◌∙◌, arith}
 use Rattle.span_kernels.specs.PlanesModel.{byte_at, with_part}
-use Rattle.tile_raster.proofs.raster.put_plane.Goals as goal
+use Rattle.tile_raster.proofs.rows.put_plane.Goals as goal
 
 pub returns-clause-here : goal.returns-clause-here
 returns-clause-here c k h =
