@@ -1,0 +1,9 @@
+pub mod Bytes
+pub mod Spans
+pub mod Laying
+pub mod Sources
+pub mod Parts
+pub mod Painting
+pub mod Moves
+pub mod Tiles
+pub mod Slices
