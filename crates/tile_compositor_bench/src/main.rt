@@ -21,6 +21,7 @@ use wr_geom::{NoMemory, Rect};
 
 /// The sides of the frame, in pixels.
 const WIDTH: u16 = 1280;
+
 const HEIGHT: u16 = 800;
 
 /// The side of each tile, in pixels.
@@ -182,9 +183,11 @@ fn time_frames(
     requires tiles { CanAllBeShown frame_tiles store.now.tiles }
     requires placed { FitFrame 1280 800 placed.now }
 {
-    let (Ok(from), Ok(mut to), Ok(planes)) =
-        (blank(rt.alloc()), blank(rt.alloc()), blank(rt.alloc()))
-    else {
+    let (Ok(from), Ok(mut to), Ok(planes)) = (
+        blank(rt.alloc()),
+        blank(rt.alloc()),
+        blank(rt.alloc()),
+    ) else {
         return Ok(());
     };
     let mut frame = Frame::new(planes);

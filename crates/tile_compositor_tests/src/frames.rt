@@ -151,7 +151,10 @@ fn the_second_slice_lies_over_the_first(rt: HostRuntime) -> Result<(), Fail> {
 
 #[test]
 fn a_slice_is_clear_outside_of_what_it_shows(rt: HostRuntime) -> Result<(), Fail> {
-    let placed = slices(((0, 0), (30, 0)), (rect(10, 0, 90, 60), rect(40, 5, 20, 10)));
+    let placed = slices(
+        ((0, 0), (30, 0)),
+        (rect(10, 0, 90, 60), rect(40, 5, 20, 10)),
+    );
     let frame = composed(rt.alloc(), &placed)?;
     let wants = [
         (9, 5, 254),
