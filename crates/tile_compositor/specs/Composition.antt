@@ -37,6 +37,10 @@ module _ {R : Type 0} where
   abbrev pub tile_colour : Tile R → ℤ → ℤ → Px
   tile_colour tile x y = pixel_at tile.planes (column_of tile.rect x) (row_of tile.rect y)
 
+  -- a tile's colour over what a frame has at a pixel, for a slice with this origin
+  abbrev pub tile_over : Tile R → Point → PlanesModel → ℕ → ℕ → Px
+  tile_over tile origin frame x y = blended Normal (tile_colour tile (pos x -ℤ origin.x) (pos y -ℤ origin.y)) (pixel_at frame x y)
+
   -- each colour of a tile is premultiplied and of four bytes
   abbrev pub HasAllPixels : Tile R → Type 0
   HasAllPixels tile = (x y : ℤ) → IsTrue (holds tile.rect x y) → IsPixel (tile_colour tile x y)
@@ -48,6 +52,10 @@ module _ {R : Type 0} where
   -- the colour of a slice at a pixel of a frame: clear outside of what it shows
   abbrev pub placed_colour : TileSides → TileList R → Placed → ℤ → ℤ → Px
   placed_colour sides tiles p x y = if holds p.shown x y then tiles_colour sides tiles p.key (x -ℤ p.origin.x) (y -ℤ p.origin.y) else clear
+
+  -- a slice's colour over what a frame has at a pixel
+  abbrev pub placed_over : TileSides → TileList R → Placed → PlanesModel → ℕ → ℕ → Px
+  placed_over sides tiles p frame x y = blended Normal (placed_colour sides tiles p (pos x) (pos y)) (pixel_at frame x y)
 
   -- slices over a colour, the backmost first
   abbrev pub composed : TileSides → TileList R → List Placed → ℤ → ℤ → Px → Px

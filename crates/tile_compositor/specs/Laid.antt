@@ -1,7 +1,8 @@
 -- Planes of which a part was painted.
-use Rattle.std.specs.Prelude.{◌≡◌, ◌≢◌, ℕ, ◌<◌, ◌≤◌, ◌⊎◌, pos, Bool, IsTrue, IsFalse, List, length, slice_index_or}
+use Rattle.std.specs.Prelude.{◌≡◌, ◌≢◌, ℕ, ◌<◌, ◌≤◌, ◌-◌, ◌⊎◌, pos, Bool, IsTrue, IsFalse, List, length, slice_index_or}
 use Rattle.wr_geom.specs.Bounds.{Bounds, holds}
-use Rattle.blend_rules.specs.Colour.{IsPixel}
+use Rattle.blend_rules.specs.Colour.{IsPixel, blended}
+use Rattle.blend_rules.specs.declared.mode.Mode.TheVariants.{Normal}
 use Rattle.blend_rules.specs.declared.colour.Px.{Px}
 use Rattle.blend_rules.specs.declared.plane.Plane.{Plane}
 use Rattle.blend_rules.specs.declared.plane.Plane.TheVariants.{B, G, R, A}
@@ -40,6 +41,18 @@ row_colour row k = record {
   r = slice_index_or (bytes_in R row) k 0;
   a = slice_index_or (bytes_in A row) k 0;
 }
+
+-- the byte of a row in a column of a span
+abbrev pub span_byte : List ℕ → Span → ℕ → ℕ
+span_byte bytes span x = slice_index_or bytes (x - span.from) 0
+
+-- the colour of a row in a column of a span
+abbrev pub span_colour : Row → Span → ℕ → Px
+span_colour row span x = row_colour row (x - span.from)
+
+-- a row's colours over what planes have in a span
+abbrev pub span_over : Row → Span → PlanesModel → ℕ → Px
+span_over row span planes x = blended Normal (span_colour row span x) (pixel_at planes x span.y)
 
 -- a row of so many premultiplied colours
 pub record IsRowOf (count : ℕ) (row : Row) : Type 0 where

@@ -1,13 +1,11 @@
 //! Parts of a frame.
 
-ghost use Rattle.std.specs.Prelude.{◌≡◌, ◌<◌, ◌-ℤ◌, ℕ, pos, IsTrue};
+ghost use Rattle.std.specs.Prelude.{◌≡◌, ◌<◌, ℕ, IsTrue};
 ghost use Rattle.wr_geom.specs.Bounds.{Covers, has_points};
-ghost use Rattle.blend_rules.specs.Colour.{blended};
-ghost use Rattle.blend_rules.specs.declared.mode.Mode.TheVariants.{Normal};
 ghost use Rattle.span_kernels.specs.PlanesModel.{pixel_at};
 ghost use Rattle.tile_grid.specs.Grids.{IsWithinReach};
 ghost use Rattle.tile_compositor.specs.Laid.{AreAllPixels, IsLaid, IsPartIn, KeepSides, bounds_of, frame_rect, lies_in};
-ghost use Rattle.tile_compositor.specs.Composition.{HasAllPixels, IsPartOver, tile_colour};
+ghost use Rattle.tile_compositor.specs.Composition.{HasAllPixels, IsPartOver, tile_over};
 
 use crate::row::{Span, fill_span, lay_span};
 use crate::source::source_of;
@@ -59,8 +57,7 @@ pub(crate) fn lay_part<R>(planes: &mut Planes, tile: &TileView<'_, R>, origin: P
     requires over { IsPartOver tile.now.rect origin part }
     requires tile { HasAllPixels tile.now }
     requires frame { AreAllPixels planes.old }
-    ensures { IsLaid (λ x y. blended Normal (tile_colour tile.now (pos x -ℤ origin.x) (pos y -ℤ origin.y)) (pixel_at planes.old x y))
-        (lies_in (bounds_of part)) planes.old planes.new }
+    ensures { IsLaid (tile_over tile.now origin planes.old) (lies_in (bounds_of part)) planes.old planes.new }
 {
     for y in part.top..part.bottom {
         let span = Span {

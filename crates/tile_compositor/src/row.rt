@@ -1,11 +1,10 @@
 //! Single rows of a frame.
 
-ghost use Rattle.std.specs.Prelude.{◌≡◌, ◌≤◌, ◌<◌, ◌-◌, ℕ, length, EachIndex, slice_index, slice_index_or};
-ghost use Rattle.blend_rules.specs.Colour.{IsPixel, blended};
-ghost use Rattle.blend_rules.specs.declared.mode.Mode.TheVariants.{Normal};
+ghost use Rattle.std.specs.Prelude.{◌≡◌, ◌≤◌, ◌<◌, ◌-◌, ℕ, length, EachIndex, slice_index};
+ghost use Rattle.blend_rules.specs.Colour.{IsPixel};
 ghost use Rattle.span_kernels.specs.Bytes.{over_byte};
 ghost use Rattle.span_kernels.specs.PlanesModel.{byte_at, pixel_at};
-ghost use Rattle.tile_compositor.specs.Laid.{IsSpanIn, IsRowOf, IsPlaneLaid, IsSpanLaid, row_colour};
+ghost use Rattle.tile_compositor.specs.Laid.{IsSpanIn, IsRowOf, IsPlaneLaid, IsSpanLaid, span_byte, span_colour, span_over};
 
 use crate::alphas::range_of;
 use blend_rules::{Px, blend_laws};
@@ -44,7 +43,7 @@ pub(crate) fn fill_span(planes: &mut Planes, span: Span, colour: Px)
 fn copy_plane(planes: &mut Planes, p: Plane, span: Span, source: &[u8])
     requires span { IsSpanIn planes.old span }
     requires source { length source.now ≡ span.to - span.from }
-    ensures { IsPlaneLaid (λ x. slice_index_or source.now (x - span.from) 0) p span planes.old planes.new }
+    ensures { IsPlaneLaid (span_byte source.now span) p span planes.old planes.new }
 {
     know_planes(planes);
     part_laws();
@@ -55,7 +54,7 @@ fn copy_plane(planes: &mut Planes, p: Plane, span: Span, source: &[u8])
 fn copy_span(planes: &mut Planes, span: Span, source: Row<'_>)
     requires span { IsSpanIn planes.old span }
     requires source { IsRowOf (span.to - span.from) source }
-    ensures { IsSpanLaid (λ x. row_colour source.entry (x - span.from)) span planes.old planes.new }
+    ensures { IsSpanLaid (span_colour source.entry span) span planes.old planes.new }
 {
     copy_plane(planes, Plane::B, span, source.b);
     copy_plane(planes, Plane::G, span, source.g);
@@ -69,7 +68,9 @@ fn over_plane(planes: &mut Planes, p: Plane, span: Span, source: &[u8], alphas: 
     requires source { length source.now ≡ span.to - span.from }
     requires alphas { length alphas.now ≡ span.to - span.from }
     requires premultiplied { EachIndex source.now (λ k. slice_index source.now k ≤ slice_index alphas.now k) }
-    ensures { IsPlaneLaid (λ x. over_byte (slice_index_or alphas.now (x - span.from) 0) (slice_index_or source.now (x - span.from) 0) (byte_at p planes.old x span.y)) p span planes.old planes.new }
+    ensures { IsPlaneLaid
+        (λ x. over_byte (span_byte alphas.now span x) (span_byte source.now span x) (byte_at p planes.old x span.y))
+        p span planes.old planes.new }
 {
     know_planes(planes);
     part_laws();
@@ -85,7 +86,7 @@ fn over_span(planes: &mut Planes, span: Span, source: Row<'_>)
     requires span { IsSpanIn planes.old span }
     requires source { IsRowOf (span.to - span.from) source }
     requires frame { (x : ℕ) → x < planes.old.width → IsPixel (pixel_at planes.old x span.y) }
-    ensures { IsSpanLaid (λ x. blended Normal (row_colour source.entry (x - span.from)) (pixel_at planes.old x span.y)) span planes.old planes.new }
+    ensures { IsSpanLaid (span_over source.entry span planes.old) span planes.old planes.new }
 {
     blend_laws();
     over_plane(planes, Plane::B, span, source.b, source.a);
@@ -99,7 +100,7 @@ pub(crate) fn lay_span(planes: &mut Planes, span: Span, source: Row<'_>)
     requires span { IsSpanIn planes.old span }
     requires source { IsRowOf (span.to - span.from) source }
     requires frame { (x : ℕ) → x < planes.old.width → IsPixel (pixel_at planes.old x span.y) }
-    ensures { IsSpanLaid (λ x. blended Normal (row_colour source.entry (x - span.from)) (pixel_at planes.old x span.y)) span planes.old planes.new }
+    ensures { IsSpanLaid (span_over source.entry span planes.old) span planes.old planes.new }
 {
     let (least, greatest) = range_of(source.a);
     if greatest == 0 {

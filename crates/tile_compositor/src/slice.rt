@@ -1,14 +1,12 @@
 //! Slices laid over a frame, tile by tile.
 
-ghost use Rattle.std.specs.Prelude.{◌≡◌, ◌<◌, ◌-ℤ◌, ℕ, pos, IsTrue, All};
+ghost use Rattle.std.specs.Prelude.{◌≡◌, ◌<◌, ℕ, pos, IsTrue, All};
 ghost use Rattle.wr_geom.specs.Bounds.{has_points};
-ghost use Rattle.blend_rules.specs.Colour.{blended};
-ghost use Rattle.blend_rules.specs.declared.mode.Mode.TheVariants.{Normal};
 ghost use Rattle.span_kernels.specs.PlanesModel.{pixel_at};
 ghost use Rattle.tile_grid.specs.Tiles.{AreTileSides};
 ghost use Rattle.tile_grid.specs.Grids.{IsWithinReach, count_of, grid_over, in_slice, tile_at, way_back};
 ghost use Rattle.tile_compositor.specs.Laid.{AreAllPixels, IsLaid, KeepSides};
-ghost use Rattle.tile_compositor.specs.Composition.{CanAllBeShown, HasAllPixels, IsPlacedIn, composed, shows_in, placed_colour, tile_colour};
+ghost use Rattle.tile_compositor.specs.Composition.{CanAllBeShown, HasAllPixels, IsPlacedIn, composed, placed_over, shows_in, tile_over};
 
 use crate::part::{lay_part, part_of};
 use crate::placed::Placed;
@@ -54,7 +52,7 @@ fn lay_kept<R>(planes: &mut Planes, tile: &TileView<'_, R>, slice: &Placed, show
     requires shown { shown ≡ in_slice slice.now.shown slice.now.origin }
     requires tile { HasAllPixels tile.now }
     requires frame { AreAllPixels planes.old }
-    ensures { IsLaid (λ x y. blended Normal (tile_colour tile.now (pos x -ℤ slice.now.origin.x) (pos y -ℤ slice.now.origin.y)) (pixel_at planes.old x y))
+    ensures { IsLaid (tile_over tile.now slice.now.origin planes.old)
         (shows_in slice.now tile.now.rect) planes.old planes.new }
 {
     know_planes(planes);
@@ -79,7 +77,7 @@ fn lay_tile<R: Drop>(
     requires shown { visible.now.shown ≡ in_slice slice.now.shown slice.now.origin }
     requires tiles { CanAllBeShown visible.now.grid.sides tiles.now.tiles }
     requires frame { AreAllPixels planes.old }
-    ensures { IsLaid (λ x y. blended Normal (placed_colour visible.now.grid.sides tiles.now.tiles slice.now (pos x) (pos y)) (pixel_at planes.old x y))
+    ensures { IsLaid (placed_over visible.now.grid.sides tiles.now.tiles slice.now planes.old)
         (shows_in slice.now (tile_at visible.now.grid index).rect) planes.old planes.new }
 {
     let _sides = visible.grid.sides();
@@ -98,7 +96,7 @@ fn lay_slice<R: Drop>(planes: &mut Planes, tiles: &TileStore<R>, slice: &Placed,
     requires frame { AreAllPixels planes.old }
     ensures sides { KeepSides planes.old planes.new }
     ensures value { (x y : ℕ) → x < planes.old.width → y < planes.old.height
-        → pixel_at planes.new x y ≡ blended Normal (placed_colour sides tiles.now.tiles slice.now (pos x) (pos y)) (pixel_at planes.old x y) }
+        → pixel_at planes.new x y ≡ placed_over sides tiles.now.tiles slice.now planes.old x y }
     ensures pixels { AreAllPixels planes.new }
 {
     if slice.shown.is_empty() {

@@ -1,5 +1,5 @@
-//! With a word as argument, prints for frames of 1,280 by 800 from two slices how long `compose` takes, and how long the copy
-//! of a frame's bytes takes, in microseconds of processor time. Both are taken in turns.
+//! With a word as argument, prints for frames of 1,280 by 800 pixels from two slices how long the copies of a frame's bytes
+//! take, and how long `compose` takes, in microseconds of processor time for `ROUNDS` of each. Both are taken in turns.
 #![tactic(auto)]
 
 ghost use Rattle.std.specs.Prelude.{◌≡◌, None, IfOk};
@@ -57,7 +57,7 @@ fn whole() -> Rect
     Rect::new(0, 0, i32::from(WIDTH), i32::from(HEIGHT) + 100).unwrap()
 }
 
-/// So many rows of it.
+/// So many rows at its top.
 fn header(rows: u8) -> Rect
     ensures { HasTileRoom result }
 {
@@ -77,7 +77,7 @@ fn copy_plane(from: &Planes, to: &mut Planes, p: Plane)
     }
 }
 
-/// Copies the bytes of a frame so often.
+/// Copies the bytes of a frame `ROUNDS` times.
 fn copy_often(from: &Planes, to: &mut Planes)
     requires from { AreFrame from.now }
     requires to { AreFrame to.old }
@@ -91,7 +91,7 @@ fn copy_often(from: &Planes, to: &mut Planes)
     }
 }
 
-/// Composes a frame so often.
+/// Composes a frame `ROUNDS` times.
 fn compose_often(store: &TileStore<u32>, placed: &[Placed], frame: &mut Frame)
     requires tiles { CanAllBeShown frame_tiles store.now.tiles }
     requires placed { FitFrame 1280 800 placed.now }
@@ -138,7 +138,7 @@ fn blank(alloc: Global) -> Result<Planes, NoMemory>
     Ok(Planes::new(alloc, WIDTH, HEIGHT)?)
 }
 
-/// What the runs of a turn take in all, for copies and for frames.
+/// What a turn's copies and its frames take in all.
 #[derive(Clone, Copy, Debug)]
 struct Turn {
     copied: Duration,
@@ -173,7 +173,7 @@ fn take_turn(
     })
 }
 
-/// Takes turns, and prints each one's times in microseconds for one frame.
+/// Takes turns, and prints each one's times in microseconds: of `ROUNDS` copies, and of `ROUNDS` frames.
 fn time_frames(
     rt: &HostRuntime,
     name: &str,
