@@ -1,0 +1,13 @@
+pub mod Claims
+pub mod Lists
+pub mod Reaching
+pub mod Heading
+pub mod Agreement
+pub mod Working
+pub mod Sounding
+pub mod Progress
+pub mod Dropping
+pub mod Fitting
+pub mod Slices
+pub mod Trimming
+pub mod Shows
