@@ -1,6 +1,5 @@
 use display_list::*;
 use std::alloc::{AllocError, Global};
-use std::test::Fail;
 use wr_io::DecodeError;
 
 /// A list with every form: a reference frame, a scroll frame, two clips, two chains, and each item.
@@ -176,20 +175,27 @@ const WRONG: [(usize, &[u8], u8, u32); 132] = [
     (317, &[255, 255, 255, 255], 3, 317),
 ];
 
-/// The code and position of the first fault.
-fn fault_of(alloc: Global, bytes: &[u8], own: u8) -> Option<(u8, u32)> {
+/// In place of a fault's code and position, where the bytes are a list.
+const LIST: (u8, u32) = (0, 0);
+
+/// How bytes are read: as a list, or with the code and position of the first fault. None where memory runs out.
+fn outcome_of(alloc: Global, bytes: &[u8], own: u8) -> Option<(u8, u32)> {
     if own > 63 || bytes.len() > 6_300_000 {
         return None;
     }
     match decode(alloc, bytes, own) {
+        Ok(_) => Some(LIST),
         Err(DecodeError::Fault(fault)) => Some((fault.code.number(), fault.at)),
-        _ => None,
+        Err(DecodeError::NoMemory) => None,
     }
 }
 
-/// Whether the bytes are a list.
-fn is_list(alloc: Global, bytes: &[u8]) -> bool {
-    bytes.len() <= 6_300_000 && decode(alloc, bytes, 0).is_ok()
+/// How the bytes of pipeline 0 are read that were made.
+fn outcome_of_made(alloc: Global, made: Result<Vec<u8>, AllocError>) -> Option<(u8, u32)> {
+    match made {
+        Ok(bytes) => outcome_of(alloc, bytes.as_slice(), 0),
+        Err(_) => None,
+    }
 }
 
 /// The whole list with these bytes at a position.
@@ -202,28 +208,31 @@ fn patched(alloc: Global, at: usize, bytes: &[u8]) -> Result<Vec<u8>, AllocError
     Ok(out)
 }
 
-/// The bytes n times, and then others.
-fn repeated(alloc: Global, bytes: &[u8], n: u16, end: &[u8]) -> Result<Vec<u8>, AllocError> {
-    let mut out = Vec::new(alloc);
-    for _ in 0..n {
-        out.extend_from_slice(bytes)?;
+/// Whether a list has two nodes, clips and chains, and four items at its top.
+fn has_every_form(list: &List) -> bool {
+    let counts = list.nodes().len() == 2 && list.clips().len() == 2 && list.chains().len() == 2;
+    counts && list.items().len() == 4
+}
+
+/// Whether a list is written as the whole one.
+fn is_written_whole(alloc: Global, list: &List) -> bool {
+    match encode(alloc, list) {
+        Ok(bytes) => bytes.as_slice() == WHOLE.as_slice(),
+        Err(_) => false,
     }
-    out.extend_from_slice(end)?;
-    Ok(out)
+}
+
+/// Whether the whole list is read, and written again as it was.
+fn is_read_and_written(alloc: Global) -> bool {
+    match decode(alloc, &WHOLE, 0) {
+        Ok(list) => has_every_form(&list) && is_written_whole(alloc, &list),
+        Err(_) => false,
+    }
 }
 
 #[test]
-fn every_form_twice(rt: HostRuntime) -> Result<(), Fail> {
-    let list = decode(rt.alloc(), &WHOLE, 0)
-        .ok()
-        .ok_or("the bytes are a list")?;
-    assert_eq!(rt; list.nodes().len(), 2);
-    assert_eq!(rt; list.clips().len(), 2);
-    assert_eq!(rt; list.chains().len(), 2);
-    assert_eq!(rt; list.items().len(), 4);
-    let again = encode(rt.alloc(), &list).ok().ok_or("there is memory")?;
-    assert!(rt; again.as_slice() == WHOLE.as_slice());
-    Ok(())
+fn every_form_twice(rt: HostRuntime) {
+    assert!(rt; is_read_and_written(rt.alloc()));
 }
 
 #[test]
@@ -241,29 +250,22 @@ fn cut_in_each_field(rt: HostRuntime) {
         if STARTS.contains(&(k as u32)) {
             start = k as u32;
         }
-        assert_eq!(rt;
-            fault_of(rt.alloc(), &WHOLE[..k], 0),
-            Some((2, start)),
-            "cut at {k}"
-        );
+        let outcome = outcome_of(rt.alloc(), &WHOLE[..k], 0);
+        assert!(rt; outcome == Some((2, start)), "cut at {k}");
     }
 }
 
 #[test]
-fn each_field_wrong(rt: HostRuntime) -> Result<(), Fail> {
+fn each_field_wrong(rt: HostRuntime) {
+    let alloc = rt.alloc();
     for (at, bytes, code, position) in WRONG {
-        let list = patched(rt.alloc(), at, bytes)?;
-        assert_eq!(rt;
-            fault_of(rt.alloc(), list.as_slice(), 0),
-            Some((code, position)),
-            "at {at}"
-        );
+        let outcome = outcome_of_made(alloc, patched(alloc, at, bytes));
+        assert!(rt; outcome == Some((code, position)), "at {at}");
     }
-    Ok(())
 }
 
-/// Short lists of pipeline 0, and the code and position of the fault of each.
-const SHORT: [(&[u8], u8, u32); 10] = [
+/// Short lists of pipeline 0, and the code and position of the fault of each: 0 and 0 where there is none.
+const SHORT: [(&[u8], u8, u32); 12] = [
     (&[], 2, 0),
     (&[0, 0], 14, 1),
     (&[11, 0], 5, 0),
@@ -285,122 +287,145 @@ const SHORT: [(&[u8], u8, u32); 10] = [
         12,
         20,
     ),
+    // Its right edge is at 1,048,576, and then one pixel beyond.
+    (
+        &[
+            6, 0, 0, 255, 255, 0, 0, 0, 0, 0, 0, 0, 0, 0, 0, 16, 0, 1, 0, 0, 0, 0, 0, 0, 0, 0,
+        ],
+        0,
+        0,
+    ),
+    (
+        &[
+            6, 0, 0, 255, 255, 0, 0, 0, 0, 0, 0, 0, 0, 1, 0, 16, 0, 1, 0, 0, 0, 0, 0, 0, 0, 0,
+        ],
+        3,
+        13,
+    ),
 ];
 
 #[test]
 fn short_lists(rt: HostRuntime) {
     for (bytes, code, at) in SHORT {
-        assert_eq!(rt; fault_of(rt.alloc(), bytes, 0), Some((code, at)));
+        assert!(rt;
+            outcome_of(rt.alloc(), bytes, 0) == Some((code, at)),
+            "{code} at {at}"
+        );
     }
-    assert_eq!(rt; fault_of(rt.alloc(), &WHOLE, 1), Some((8, 299)));
+    assert!(rt; outcome_of(rt.alloc(), &WHOLE, 1) == Some((8, 299)));
 }
 
-#[test]
-fn edges_end_at_1048576(rt: HostRuntime) {
-    let near = [
-        6, 0, 0, 255, 255, 0, 0, 0, 0, 0, 0, 0, 0, 0, 0, 16, 0, 1, 0, 0, 0, 0, 0, 0, 0, 0,
-    ];
-    assert!(rt; is_list(rt.alloc(), &near));
-    let far = [
-        6, 0, 0, 255, 255, 0, 0, 0, 0, 0, 0, 0, 0, 1, 0, 16, 0, 1, 0, 0, 0, 0, 0, 0, 0, 0,
-    ];
-    assert_eq!(rt; fault_of(rt.alloc(), &far, 0), Some((3, 13)));
-}
-
-#[test]
-fn contexts_nest_64_deep(rt: HostRuntime) -> Result<(), Fail> {
-    let push = [10, 0, 0, 255, 255, 255, 255, 255, 0, 0];
-    let pops = [11; 64];
-    let mut list = repeated(rt.alloc(), &push, 64, &pops)?;
-    list.push(0)?;
-    assert!(rt; is_list(rt.alloc(), list.as_slice()));
-    let deeper = repeated(rt.alloc(), &push, 65, &[])?;
-    assert_eq!(rt; fault_of(rt.alloc(), deeper.as_slice(), 0), Some((13, 640)));
-    Ok(())
-}
-
-#[test]
-fn nodes_stand_64_deep(rt: HostRuntime) -> Result<(), Fail> {
-    let mut list = Vec::new(rt.alloc());
-    for parent in 0u8..64 {
-        list.extend_from_slice(&[1, parent, 0, 0, 0, 0, 0, 0, 0, 0, 0, 255, 255])?;
+/// A part so many times, as part of other bytes.
+fn add(out: &mut Vec<u8>, times: u32, part: &[u8]) -> Result<(), AllocError> {
+    for _ in 0..times {
+        out.extend_from_slice(part)?;
     }
-    let deeper = [1, 64, 0, 0, 0, 0, 0, 0, 0, 0, 0, 255, 255];
-    let mut whole = list.clone()?;
-    whole.push(0)?;
-    assert!(rt; is_list(rt.alloc(), whole.as_slice()));
-    list.extend_from_slice(&deeper)?;
-    assert_eq!(rt; fault_of(rt.alloc(), list.as_slice(), 0), Some((13, 833)));
     Ok(())
 }
 
+/// Parts one after the other, each so many times.
+fn joined(alloc: Global, parts: &[(u32, &[u8])]) -> Result<Vec<u8>, AllocError> {
+    let mut out = Vec::new(alloc);
+    for (times, part) in parts {
+        add(&mut out, *times, *part)?;
+    }
+    Ok(out)
+}
+
+/// A node of the root, a clip, a chain without clips, and the start of a context.
+const NODE: &[u8] = &[1, 0, 0, 0, 0, 0, 0, 0, 0, 0, 0, 255, 255];
+
+const CLIP: &[u8] = &[3, 0, 0, 0, 0, 0, 0, 0, 0, 0, 0, 0, 0, 0, 0, 0, 0, 0, 0];
+
+const CHAIN: &[u8] = &[5, 255, 255, 0];
+
+const PUSH: &[u8] = &[10, 0, 0, 255, 255, 255, 255, 255, 0, 0];
+
+/// The start of a chain of 254 clips.
+const LONG_CHAIN: &[u8] = &[5, 255, 255, 254];
+
+/// A scroll frame, always of number 7.
+const FRAME: &[u8] = &[
+    2, 0, 0, 7, 0, 0, 0, 0, 0, 0, 0, 0, 0, 0, 0, 0, 0, 0, 0, 0, 0,
+];
+
+const SOLID: &[u8] = &[
+    6, 0, 0, 255, 255, 0, 0, 0, 0, 0, 0, 0, 0, 4, 0, 0, 0, 4, 0, 0, 0, 1, 2, 3, 4,
+];
+
+/// The parts of lists, and the code and position of the fault of each: 0 and 0 where there is none.
+const JOINED: [(&[(u32, &[u8])], u8, u32); 12] = [
+    // Contexts nest 64 deep.
+    (&[(64, PUSH), (64, &[11]), (1, &[0])], 0, 0),
+    (&[(65, PUSH)], 13, 640),
+    // There are 4,096 nodes, clips and chains.
+    (&[(4096, NODE), (1, &[0])], 0, 0),
+    (&[(4097, NODE)], 13, 53_248),
+    (&[(4096, CLIP), (1, &[0])], 0, 0),
+    (&[(4097, CLIP)], 13, 77_824),
+    (&[(4096, CHAIN), (1, &[0])], 0, 0),
+    (&[(4097, CHAIN)], 13, 16_384),
+    // Chains have 255 clips, those of their parents included.
+    (
+        &[
+            (1, CLIP),
+            (1, LONG_CHAIN),
+            (508, &[0]),
+            (1, &[5, 0, 0, 1, 0, 0, 0]),
+        ],
+        0,
+        0,
+    ),
+    (
+        &[(1, CLIP), (1, LONG_CHAIN), (508, &[0]), (1, &[5, 0, 0, 2])],
+        13,
+        534,
+    ),
+    // A scroll number stands once.
+    (&[(2, FRAME), (1, &[0])], 4, 24),
+    // More than 5 MiB.
+    (&[(209_716, SOLID), (1, &[0])], 0, 0),
+];
+
 #[test]
-fn counts_end_at_4096(rt: HostRuntime) -> Result<(), Fail> {
+fn lists_at_their_limits(rt: HostRuntime) {
     let alloc = rt.alloc();
-    let node = [1, 0, 0, 0, 0, 0, 0, 0, 0, 0, 0, 255, 255];
-    let clip = [3, 0, 0, 0, 0, 0, 0, 0, 0, 0, 0, 0, 0, 0, 0, 0, 0, 0, 0];
-    let chain = [5, 255, 255, 0];
-    assert!(rt; is_list(alloc, repeated(alloc, &node, 4096, &[0])?.as_slice()));
-    assert!(rt; is_list(alloc, repeated(alloc, &clip, 4096, &[0])?.as_slice()));
-    assert!(rt; is_list(alloc, repeated(alloc, &chain, 4096, &[0])?.as_slice()));
-    let nodes = repeated(alloc, &node, 4097, &[])?;
-    assert_eq!(rt; fault_of(alloc, nodes.as_slice(), 0), Some((13, 53_248)));
-    let clips = repeated(alloc, &clip, 4097, &[])?;
-    assert_eq!(rt; fault_of(alloc, clips.as_slice(), 0), Some((13, 77_824)));
-    let chains = repeated(alloc, &chain, 4097, &[])?;
-    assert_eq!(rt; fault_of(alloc, chains.as_slice(), 0), Some((13, 16_384)));
-    Ok(())
+    for (parts, code, at) in JOINED {
+        let outcome = outcome_of_made(alloc, joined(alloc, parts));
+        assert!(rt; outcome == Some((code, at)), "{code} at {at}");
+    }
+}
+
+/// So many nodes, each within the one before, and then other bytes.
+fn nested_nodes(alloc: Global, nodes: u8, end: &[u8]) -> Result<Vec<u8>, AllocError> {
+    let mut out = Vec::new(alloc);
+    for parent in 0..nodes {
+        out.extend_from_slice(&[1, parent, 0, 0, 0, 0, 0, 0, 0, 0, 0, 255, 255])?;
+    }
+    out.extend_from_slice(end)?;
+    Ok(out)
 }
 
 #[test]
-fn chains_have_255_clips(rt: HostRuntime) -> Result<(), Fail> {
+fn nodes_stand_64_deep(rt: HostRuntime) {
     let alloc = rt.alloc();
-    let mut list = Vec::new(alloc);
-    list.extend_from_slice(&[3, 0, 0, 0, 0, 0, 0, 0, 0, 0, 0, 0, 0, 0, 0, 0, 0, 0, 0])?;
-    list.extend_from_slice(&[5, 255, 255, 254])?;
-    list.extend_from_slice(&[0; 508])?;
-    let mut whole = list.clone()?;
-    whole.extend_from_slice(&[5, 0, 0, 1, 0, 0, 0])?;
-    assert!(rt; is_list(alloc, whole.as_slice()));
-    list.extend_from_slice(&[5, 0, 0, 2])?;
-    assert_eq!(rt; fault_of(alloc, list.as_slice(), 0), Some((13, 534)));
-    Ok(())
+    assert!(rt; outcome_of_made(alloc, nested_nodes(alloc, 64, &[0])) == Some(LIST));
+    assert!(rt; outcome_of_made(alloc, nested_nodes(alloc, 65, &[])) == Some((13, 833)));
 }
 
-#[test]
-fn a_scroll_number_once(rt: HostRuntime) -> Result<(), Fail> {
-    let frame = [
-        2, 0, 0, 7, 0, 0, 0, 0, 0, 0, 0, 0, 0, 0, 0, 0, 0, 0, 0, 0, 0,
-    ];
-    let list = repeated(rt.alloc(), &frame, 2, &[0])?;
-    assert_eq!(rt; fault_of(rt.alloc(), list.as_slice(), 0), Some((4, 24)));
-    Ok(())
-}
-
-#[test]
-fn scroll_numbers_of_4096_frames(rt: HostRuntime) -> Result<(), Fail> {
-    let mut list = Vec::new(rt.alloc());
+/// Scroll frames of the numbers from 0 to 4,095.
+fn numbered_frames(alloc: Global) -> Result<Vec<u8>, AllocError> {
+    let mut out = Vec::new(alloc);
     for sid in 0u16..4096 {
-        list.extend_from_slice(&[2, 0, 0])?;
-        list.extend_from_slice(&sid.to_le_bytes())?;
-        list.extend_from_slice(&[0; 16])?;
+        let sid = sid.to_le_bytes();
+        out.extend_from_slice(&[2, 0, 0, sid[0], sid[1]])?;
+        out.extend_from_slice(&[0; 16])?;
     }
-    list.push(0)?;
-    assert!(rt; is_list(rt.alloc(), list.as_slice()));
-    Ok(())
+    out.extend_from_slice(&[0])?;
+    Ok(out)
 }
 
 #[test]
-fn a_list_of_5_mebibytes(rt: HostRuntime) -> Result<(), Fail> {
-    let solid = [
-        6, 0, 0, 255, 255, 0, 0, 0, 0, 0, 0, 0, 0, 4, 0, 0, 0, 4, 0, 0, 0, 1, 2, 3, 4,
-    ];
-    let mut list = Vec::new(rt.alloc());
-    for _ in 0..4 {
-        list.extend_from_slice(repeated(rt.alloc(), &solid, 52_429, &[])?.as_slice())?;
-    }
-    list.push(0)?;
-    assert!(rt; list.len() > 5 << 20);
-    assert!(rt; is_list(rt.alloc(), list.as_slice()));
-    Ok(())
+fn scroll_numbers_of_4096_frames(rt: HostRuntime) {
+    assert!(rt; outcome_of_made(rt.alloc(), numbered_frames(rt.alloc())) == Some(LIST));
 }

@@ -1,6 +1,5 @@
 use blend_rules::Px;
 use std::alloc::{AllocError, Global};
-use std::test::Fail;
 use txn_format::*;
 use wr_io::DecodeError;
 
@@ -109,16 +108,21 @@ fn fault_of(alloc: Global, payload: &[u8]) -> Option<(u8, u32)> {
     }
 }
 
+/// Whether a transaction is written as the payload.
+fn is_written_as(alloc: Global, txn: &Txn<'_>, payload: &[u8]) -> bool {
+    match write_txn(alloc, txn) {
+        Ok(bytes) => bytes.as_slice() == payload,
+        Err(_) => false,
+    }
+}
+
 /// Whether the payload is read and written again as it was.
 fn is_written_again(alloc: Global, payload: &[u8]) -> bool {
     if payload.len() > MAX_PAYLOAD_BYTES {
         return false;
     }
-    let Ok(txn) = read_txn(alloc, payload) else {
-        return false;
-    };
-    match write_txn(alloc, &txn) {
-        Ok(bytes) => bytes.as_slice() == payload,
+    match read_txn(alloc, payload) {
+        Ok(txn) => is_written_as(alloc, &txn, payload),
         Err(_) => false,
     }
 }
@@ -133,40 +137,50 @@ fn patched(alloc: Global, at: usize, bytes: &[u8]) -> Result<Vec<u8>, AllocError
     Ok(out)
 }
 
-#[test]
-fn every_operation_twice(rt: HostRuntime) -> Result<(), Fail> {
-    let txn = read_txn(rt.alloc(), &WHOLE)
-        .ok()
-        .ok_or("the bytes are a transaction")?;
-    assert_eq!(rt; (txn.pipeline(), txn.frame(), txn.len()), (0, true, 117));
-    assert_eq!(rt; txn.ops().len(), 13);
-    assert!(rt; is_written_again(rt.alloc(), &WHOLE));
-    Ok(())
+/// The code and position of the first fault of that.
+fn fault_of_patched(alloc: Global, at: usize, bytes: &[u8]) -> Option<(u8, u32)> {
+    match patched(alloc, at, bytes) {
+        Ok(payload) => fault_of(alloc, payload.as_slice()),
+        Err(_) => None,
+    }
 }
 
-#[test]
-fn operations_have_their_positions(rt: HostRuntime) -> Result<(), Fail> {
-    let txn = read_txn(rt.alloc(), &WHOLE)
-        .ok()
-        .ok_or("the bytes are a transaction")?;
-    let list = Op::SetList {
+/// The first and the third operation of the whole transaction.
+const FIRST: Placed<'static> = Placed {
+    at: 4,
+    op: Op::SetList {
         epoch: 7,
         bytes: &[9, 8, 7],
-    };
-    assert_eq!(rt;
-        txn.ops().first().copied(),
-        Some(Placed { at: 4, op: list })
-    );
-    let scroll = Op::Scroll {
+    },
+};
+
+const THIRD: Placed<'static> = Placed {
+    at: 17,
+    op: Op::Scroll {
         sid: 5,
         x: 1_048_576,
         y: -1_048_576,
-    };
-    assert_eq!(rt;
-        txn.ops().get(2).copied(),
-        Some(Placed { at: 17, op: scroll })
-    );
-    Ok(())
+    },
+};
+
+/// Whether a transaction has the header of the whole one, and its operations at their positions.
+fn has_operations(txn: &Txn<'_>) -> bool {
+    let header = (txn.pipeline(), txn.frame(), txn.len()) == (0, true, 117);
+    let first = txn.ops().first().copied() == Some(FIRST);
+    header && first && txn.ops().get(2).copied() == Some(THIRD) && txn.ops().len() == 13
+}
+
+/// Whether the whole transaction is read so.
+fn is_read(alloc: Global) -> bool {
+    match read_txn(alloc, &WHOLE) {
+        Ok(txn) => has_operations(&txn),
+        Err(_) => false,
+    }
+}
+
+#[test]
+fn operations_have_their_positions(rt: HostRuntime) {
+    assert!(rt; is_read(rt.alloc()));
 }
 
 #[test]
@@ -183,45 +197,63 @@ fn cut_in_each_field(rt: HostRuntime) {
         if STARTS.contains(&(k as u32)) {
             start = k as u32;
         }
-        assert_eq!(rt;
-            fault_of(rt.alloc(), &WHOLE[..k]),
-            Some((2, start)),
-            "cut at {k}"
-        );
+        let fault = fault_of(rt.alloc(), &WHOLE[..k]);
+        assert!(rt; fault == Some((2, start)), "cut at {k}");
     }
 }
 
 #[test]
-fn each_field_wrong(rt: HostRuntime) -> Result<(), Fail> {
+fn each_field_wrong(rt: HostRuntime) {
     for (at, bytes, code, position) in WRONG {
-        let payload = patched(rt.alloc(), at, bytes)?;
-        assert_eq!(rt;
-            fault_of(rt.alloc(), payload.as_slice()),
-            Some((code, position)),
-            "at {at}"
-        );
+        let fault = fault_of_patched(rt.alloc(), at, bytes);
+        assert!(rt; fault == Some((code, position)), "at {at}");
     }
-    for (payload, code, at) in SHORT {
-        assert_eq!(rt; fault_of(rt.alloc(), payload), Some((code, at)));
-    }
-    Ok(())
 }
 
 #[test]
-fn limits_pass(rt: HostRuntime) -> Result<(), Fail> {
-    assert!(rt; is_written_again(rt.alloc(), &[63, 1, 0, 0]));
-    assert!(rt; is_written_again(rt.alloc(), &[0, 0, 1, 0, 11, 0, 4, 0, 4, 0, 1, 0, 0]));
-    let mut most = Vec::new(rt.alloc());
-    most.extend_from_slice(&[9, 0, 255, 255])?;
-    for _ in 0..65535u32 {
-        most.push(2)?;
+fn short_payloads(rt: HostRuntime) {
+    for (payload, code, at) in SHORT {
+        assert!(rt;
+            fault_of(rt.alloc(), payload) == Some((code, at)),
+            "{code} at {at}"
+        );
     }
-    assert!(rt; is_written_again(rt.alloc(), most.as_slice()));
-    let mut image = Vec::new(rt.alloc());
-    image.extend_from_slice(&[9, 0, 1, 0, 5, 1, 0, 0, 0, 0, 16, 1, 0])?;
-    for _ in 0..16384u32 {
-        image.push(200)?;
+}
+
+/// Bytes, and then one so many times.
+fn filled(alloc: Global, head: &[u8], times: usize, byte: u8) -> Result<Vec<u8>, AllocError> {
+    let mut out = Vec::new(alloc);
+    out.extend_from_slice(head)?;
+    out.resize(out.len().saturating_add(times), byte)?;
+    Ok(out)
+}
+
+/// Whether these are read and written again as they were.
+fn is_filled_again(alloc: Global, head: &[u8], times: usize, byte: u8) -> bool {
+    match filled(alloc, head, times, byte) {
+        Ok(payload) => is_written_again(alloc, payload.as_slice()),
+        Err(_) => false,
     }
-    assert!(rt; is_written_again(rt.alloc(), image.as_slice()));
-    Ok(())
+}
+
+/// The first bytes of payloads at a limit, and how many of one byte follow.
+const LIMITS: [(&[u8], usize, u8); 5] = [
+    (&WHOLE, 0, 0),
+    (&[63, 1, 0, 0], 0, 0),
+    // 1,024 by 1,024 pixels a tile.
+    (&[0, 0, 1, 0, 11, 0, 4, 0, 4, 0, 1, 0, 0], 0, 0),
+    // 65,535 operations.
+    (&[9, 0, 255, 255], 65_535, 2),
+    // An image of 4,096 texels a row.
+    (&[9, 0, 1, 0, 5, 1, 0, 0, 0, 0, 16, 1, 0], 16_384, 200),
+];
+
+#[test]
+fn limits_pass(rt: HostRuntime) {
+    for (head, times, byte) in LIMITS {
+        assert!(rt;
+            is_filled_again(rt.alloc(), head, times, byte),
+            "{times} of {byte}"
+        );
+    }
 }

@@ -3,118 +3,141 @@
 ghost use Rattle.record_frame.specs.Framing.{IsInputForm};
 
 use record_frame::{AnswerPayload, RunError, Session, Transactions, answer_input};
-use std::test::Fail;
+use std::alloc::{AllocError, Global};
 use wr_io::{Code, Fault, MemSink, MemSource};
 
 mod toys;
 
 use toys::{Bells, FirstBytes, Lengths};
 
-/// How a command ended, what it wrote, and how many bytes it left.
-#[derive(Drop)]
-struct Ran {
+/// An input, the calls of one byte each at which its source and its sink fail, and a command's run over it: how it ends,
+/// what it has written, and how many bytes it has left.
+struct Run {
+    input: &'static [u8],
+    source_fails: &'static [u64],
+    sink_fails: &'static [u64],
     ended: Result<(), RunError>,
-    out: Vec<u8>,
+    written: &'static [u8],
     left: usize,
 }
 
-/// A command over an input, with an output that begins with `!`, and a source and a sink that fail at
-/// these calls of one byte each.
-fn run_over<A: Session>(
-    rt: &HostRuntime,
-    session: A,
-    input: &[u8],
-    source_fails: &[u64],
-    sink_fails: &[u64],
-) -> Result<Ran, Fail>
+/// Whether a command whose output begins with `!` has this run.
+fn run_over<A: Session>(alloc: Global, session: A, run: &Run) -> Result<bool, AllocError>
     requires { IsInputForm A.form }
 {
-    let bytes = input.to_vec(rt.alloc())?;
-    let mut source = MemSource::new(bytes, 1, source_fails.to_vec(rt.alloc())?);
-    let room = vec![in rt.alloc(); 0; 64]?;
-    let mut sink = MemSink::new(room, 1, sink_fails.to_vec(rt.alloc())?);
-    let ended = answer_input(rt.alloc(), b"!", session, &mut source, &mut sink);
-    Ok(Ran {
-        ended,
-        out: sink.written().to_vec(rt.alloc())?,
-        left: source.left().len(),
-    })
+    let fails = run.source_fails.to_vec(alloc)?;
+    let mut source = MemSource::new(run.input.to_vec(alloc)?, 1, fails);
+    let room = vec![in alloc; 0; 64]?;
+    let mut sink = MemSink::new(room, 1, run.sink_fails.to_vec(alloc)?);
+    let ended = answer_input(alloc, b"!", session, &mut source, &mut sink);
+    Ok(ended == run.ended && sink.written() == run.written && source.left().len() == run.left)
+}
+
+/// Whether a command over payloads has it.
+fn run_over_payloads<A: AnswerPayload>(
+    alloc: Global,
+    by: A,
+    run: &Run,
+) -> Result<bool, AllocError> {
+    run_over(alloc, Transactions { by }, run)
+}
+
+/// Whether the command over bells and payloads has it.
+fn run_over_bells(alloc: Global, run: &Run) -> Result<bool, AllocError> {
+    run_over(alloc, Bells, run)
 }
 
 /// Two payloads, of three bytes and of none.
-const TWO: [u8; 18] = *b"WRT1T\x03\0\0\0abcT\0\0\0\0Z";
+const TWO: &[u8] = b"WRT1T\x03\0\0\0abcT\0\0\0\0Z";
 
-/// A command over the two payloads.
-fn run_over_payloads<A: AnswerPayload>(rt: &HostRuntime, by: A) -> Result<Ran, Fail> {
-    run_over(rt, Transactions { by }, &TWO, &[], &[])
-}
-
-/// The command over bells and payloads.
-fn run_over_bells(
-    rt: &HostRuntime,
-    input: &[u8],
-    source_fails: &[u64],
-    sink_fails: &[u64],
-) -> Result<Ran, Fail> {
-    run_over(rt, Bells, input, source_fails, sink_fails)
-}
+/// Each payload answered by the length of the one before, from 9 on.
+const LENGTHS: Run = Run {
+    input: TWO,
+    source_fails: &[],
+    sink_fails: &[],
+    ended: Ok(()),
+    written: &[33, 9, 0, 0, 0, 3, 0, 0, 0, 90],
+    left: 0,
+};
 
 #[test]
-fn the_state_goes_from_entry_to_entry(rt: HostRuntime) -> Result<(), Fail> {
-    let ran = run_over_payloads(&rt, Lengths { before: 9 })?;
-    assert_eq!(rt; ran.ended, Ok(()));
-    assert_eq!(rt;
-        ran.out.as_slice(),
-        [33, 9, 0, 0, 0, 3, 0, 0, 0, 90].as_slice()
-    );
-    Ok(())
+fn the_state_goes_from_entry_to_entry(rt: HostRuntime) {
+    assert!(rt; run_over_payloads(rt.alloc(), Lengths { before: 9 }, &LENGTHS) == Ok(true));
 }
 
-#[test]
-fn a_refused_entry_ends_a_command(rt: HostRuntime) -> Result<(), Fail> {
-    let fault = Fault {
+/// Each payload answered by its first byte, of which the second has none.
+const FIRST_BYTES: Run = Run {
+    input: TWO,
+    source_fails: &[],
+    sink_fails: &[],
+    ended: Err(RunError::Refused(Fault {
         code: Code::Short,
         at: 0,
-    };
-    let ran = run_over_payloads(&rt, FirstBytes)?;
-    assert_eq!(rt; ran.ended, Err(RunError::Refused(fault)));
-    assert_eq!(rt; (ran.out.as_slice(), ran.left), (b"!a".as_slice(), 1));
-    Ok(())
-}
+    })),
+    written: b"!a",
+    left: 1,
+};
 
 #[test]
-fn entries_of_another_form(rt: HostRuntime) -> Result<(), Fail> {
-    let ran = run_over_bells(&rt, b"BELLBP\x01\0\0\0xBZ..", &[], &[])?;
-    assert_eq!(rt; ran.ended, Ok(()));
-    assert_eq!(rt; (ran.out.as_slice(), ran.left), (b"!BPBZ".as_slice(), 2));
-    Ok(())
+fn a_refused_entry_ends_a_command(rt: HostRuntime) {
+    assert!(rt; run_over_payloads(rt.alloc(), FirstBytes, &FIRST_BYTES) == Ok(true));
 }
 
-#[test]
-fn a_broken_form_ends_within_its_tag(rt: HostRuntime) -> Result<(), Fail> {
-    let ran = run_over_bells(&rt, b"BELLBT..", &[], &[])?;
-    assert_eq!(rt; ran.ended, Err(RunError::BrokenInput));
-    assert_eq!(rt; (ran.out.as_slice(), ran.left), (b"!B".as_slice(), 2));
-    Ok(())
-}
+const BELLS: [Run; 5] = [
+    // Entries of another form than payloads.
+    Run {
+        input: b"BELLBP\x01\0\0\0xBZ..",
+        source_fails: &[],
+        sink_fails: &[],
+        ended: Ok(()),
+        written: b"!BPBZ",
+        left: 2,
+    },
+    // A broken form ends within its tag.
+    Run {
+        input: b"BELLBT..",
+        source_fails: &[],
+        sink_fails: &[],
+        ended: Err(RunError::BrokenInput),
+        written: b"!B",
+        left: 2,
+    },
+    // Another magic takes four bytes.
+    Run {
+        input: b"BELTBZ",
+        source_fails: &[],
+        sink_fails: &[],
+        ended: Err(RunError::BrokenInput),
+        written: b"",
+        left: 2,
+    },
+    // A failing read ends a command.
+    Run {
+        input: b"BELLBBZ",
+        source_fails: &[6],
+        sink_fails: &[],
+        ended: Err(RunError::ReadFailed),
+        written: b"!B",
+        left: 2,
+    },
+    // A failing write does.
+    Run {
+        input: b"BELLBBZ",
+        source_fails: &[],
+        sink_fails: &[3],
+        ended: Err(RunError::WriteFailed),
+        written: b"!B",
+        left: 1,
+    },
+];
 
 #[test]
-fn another_magic_takes_four_bytes(rt: HostRuntime) -> Result<(), Fail> {
-    let ran = run_over_bells(&rt, b"BELTBZ", &[], &[])?;
-    assert_eq!(rt; ran.ended, Err(RunError::BrokenInput));
-    assert_eq!(rt; (ran.out.len(), ran.left), (0, 2));
-    Ok(())
-}
-
-#[test]
-fn failing_calls_end_a_command(rt: HostRuntime) -> Result<(), Fail> {
-    let ran = run_over_bells(&rt, b"BELLBBZ", &[6], &[])?;
-    assert_eq!(rt; ran.ended, Err(RunError::ReadFailed));
-    assert_eq!(rt; ran.out.as_slice(), b"!B".as_slice());
-    assert_eq!(rt; ran.left, 2);
-    let ran = run_over_bells(&rt, b"BELLBBZ", &[], &[3])?;
-    assert_eq!(rt; ran.ended, Err(RunError::WriteFailed));
-    assert_eq!(rt; ran.out.as_slice(), b"!B".as_slice());
-    assert_eq!(rt; ran.left, 1);
-    Ok(())
+fn entries_of_another_form(rt: HostRuntime) {
+    for run in &BELLS {
+        assert!(rt;
+            run_over_bells(rt.alloc(), run) == Ok(true),
+            "{} left",
+            run.left
+        );
+    }
 }

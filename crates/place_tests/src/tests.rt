@@ -5,13 +5,12 @@ mod homes;
 mod offsets;
 mod stored;
 
-ghost use Rattle.std.specs.Prelude.{◌≤◌, length};
 ghost use Rattle.field_forms.specs.Facts.{IsNear};
 
 use display_list::{List, decode};
 use spatial_tree::Moves;
 use std::alloc::Global;
-use std::test::Fail;
+use wr_geom::NoMemory;
 
 /// Frames under the root: a reference frame, in it a scroll frame, in that another one, in that a
 /// reference frame, and one more in the first. Then clips and chains.
@@ -32,18 +31,27 @@ const FRAMES: [u8; 178] = [
     0, // the list's end
 ];
 
-/// The list that these bytes spell.
-fn list_of(alloc: Global, bytes: &[u8]) -> Result<List, Fail> {
+/// The list that these bytes spell, or None where they spell none or memory runs out.
+fn list_of(alloc: Global, bytes: &[u8]) -> Option<List> {
     if bytes.len() > 65_536 {
-        return list_of_few(alloc, &[0]);
+        return None;
     }
-    list_of_few(alloc, bytes)
+    decode(alloc, bytes, 0).ok()
 }
 
-fn list_of_few(alloc: Global, bytes: &[u8]) -> Result<List, Fail>
-    requires { length bytes.now ≤ 65536 }
+/// What a check answers on the list that these bytes spell, and with no moves. False where there is no list, or memory
+/// runs out.
+fn on_a_list<F: FnOnce(Global, &List, &mut Moves) -> Result<bool, NoMemory>>(
+    alloc: Global,
+    bytes: &[u8],
+    check: F,
+) -> bool
+    requires { F.IsAlwaysCallable check }
 {
-    Ok(decode(alloc, bytes, 0).ok().ok_or("no list")?)
+    match list_of(alloc, bytes) {
+        Some(list) => check(alloc, &list, &mut Moves::new(alloc)) == Ok(true),
+        None => false,
+    }
 }
 
 /// A number of pixels, within the range of positions.
@@ -53,18 +61,17 @@ fn near(z: i32) -> i32
     z.max(-1_048_576).min(1_048_576)
 }
 
-/// Positions by scroll number, and offset properties.
-fn moves_of(
-    alloc: Global,
+/// Stores positions by scroll number, and offset properties.
+fn set_moves(
+    moves: &mut Moves,
     scrolls: &[(u16, i32, i32)],
     offsets: &[(u16, i32, i32)],
-) -> Result<Moves, Fail> {
-    let mut moves = Moves::new(alloc);
+) -> Result<(), NoMemory> {
     for scroll in scrolls {
         moves.set_scroll(scroll.0, near(scroll.1), near(scroll.2))?;
     }
     for offset in offsets {
         moves.set_offset(offset.0, near(offset.1), near(offset.2))?;
     }
-    Ok(moves)
+    Ok(())
 }
