@@ -21,7 +21,7 @@ fn deletes_once(stage: &mut Stage) -> Result<bool, (u8, u32)> {
 
 #[test]
 fn an_image_is_deleted_once(rt: HostRuntime) {
-    assert_eq!(rt; on_a_stage(rt.alloc(), deletes_once), Ok(true));
+    assert!(rt; on_a_stage(rt.alloc(), deletes_once) == Ok(true));
 }
 
 /// Whether an image that is absent is neither deleted nor updated.
@@ -32,7 +32,7 @@ fn refuses_the_absent(stage: &mut Stage) -> Result<bool, (u8, u32)> {
 
 #[test]
 fn an_absent_image_is_not_changed(rt: HostRuntime) {
-    assert_eq!(rt; on_a_stage(rt.alloc(), refuses_the_absent), Ok(true));
+    assert!(rt; on_a_stage(rt.alloc(), refuses_the_absent) == Ok(true));
 }
 
 /// An update to blue, and then a list that begins with a context of mode 9.
@@ -52,7 +52,7 @@ fn leaves_all(stage: &mut Stage) -> Result<bool, (u8, u32)> {
 
 #[test]
 fn a_refused_transaction_leaves_all(rt: HostRuntime) {
-    assert_eq!(rt; on_a_stage(rt.alloc(), leaves_all), Ok(true));
+    assert!(rt; on_a_stage(rt.alloc(), leaves_all) == Ok(true));
 }
 
 /// Scroll number 3 to (5, 6), and then an image of one red texel under key 8.
@@ -83,7 +83,7 @@ fn ends_the_counter(stage: &mut Stage) -> Result<bool, (u8, u32)> {
 
 #[test]
 fn the_counter_has_an_end(rt: HostRuntime) {
-    assert_eq!(rt; on_a_stage(rt.alloc(), ends_the_counter), Ok(true));
+    assert!(rt; on_a_stage(rt.alloc(), ends_the_counter) == Ok(true));
 }
 
 /// Whether an update and a mask after the last are refused.
@@ -95,7 +95,7 @@ fn counts_each(stage: &mut Stage) -> Result<bool, (u8, u32)> {
 
 #[test]
 fn updates_and_masks_count_too(rt: HostRuntime) {
-    assert_eq!(rt; on_a_stage(rt.alloc(), counts_each), Ok(true));
+    assert!(rt; on_a_stage(rt.alloc(), counts_each) == Ok(true));
 }
 
 /// Updates of image 9 and adds that are refused where it has one texel, and their codes and positions.
@@ -119,7 +119,7 @@ fn names_the_field(stage: &mut Stage) -> Result<bool, (u8, u32)> {
 
 #[test]
 fn a_refusal_names_its_field(rt: HostRuntime) {
-    assert_eq!(rt; on_a_stage(rt.alloc(), names_the_field), Ok(true));
+    assert!(rt; on_a_stage(rt.alloc(), names_the_field) == Ok(true));
 }
 
 /// Tiles dropped by pipeline 1, a list of an undefined tag, and one before an operation of another.
@@ -138,7 +138,7 @@ fn reads_before_lists(stage: &mut Stage) -> Result<bool, (u8, u32)> {
 
 #[test]
 fn the_payload_is_read_before_its_lists(rt: HostRuntime) {
-    assert_eq!(rt; on_a_stage(rt.alloc(), reads_before_lists), Ok(true));
+    assert!(rt; on_a_stage(rt.alloc(), reads_before_lists) == Ok(true));
 }
 
 /// Whether nothing was added or stored.
@@ -157,5 +157,5 @@ fn adds_or_stays(stage: &mut Stage) -> Result<bool, (u8, u32)> {
 
 #[test]
 fn without_memory_nothing_changes(rt: HostRuntime) {
-    assert_eq!(rt; on_a_stage(rt.alloc(), adds_or_stays), Ok(true));
+    assert!(rt; on_a_stage(rt.alloc(), adds_or_stays) == Ok(true));
 }

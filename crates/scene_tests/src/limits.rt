@@ -73,7 +73,7 @@ fn nests_through_iframes(stage: &mut Stage) -> Result<bool, (u8, u32)> {
 
 #[test]
 fn contexts_go_through_iframes(rt: HostRuntime) {
-    assert_eq!(rt; on_a_stage(rt.alloc(), nests_through_iframes), Ok(true));
+    assert!(rt; on_a_stage(rt.alloc(), nests_through_iframes) == Ok(true));
 }
 
 /// Two nodes, each 2^20 pixels to the right of its parent.
@@ -121,7 +121,7 @@ fn stands_far_out(stage: &mut Stage) -> Result<bool, (u8, u32)> {
 
 #[test]
 fn an_iframe_far_out(rt: HostRuntime) {
-    assert_eq!(rt; on_a_stage(rt.alloc(), stands_far_out), Ok(true));
+    assert!(rt; on_a_stage(rt.alloc(), stands_far_out) == Ok(true));
 }
 
 /// A payload with a mask of so many pixels a side.
@@ -160,5 +160,5 @@ fn stores_as_many(stage: &mut Stage) -> Result<bool, (u8, u32)> {
 
 #[test]
 fn stored_pixels_have_a_limit(rt: HostRuntime) {
-    assert_eq!(rt; on_a_stage(rt.alloc(), stores_as_many), Ok(true));
+    assert!(rt; on_a_stage(rt.alloc(), stores_as_many) == Ok(true));
 }

@@ -6,6 +6,8 @@ mod glyphs;
 #[cfg(test)]
 mod images;
 #[cfg(test)]
+mod made;
+#[cfg(test)]
 mod refusals;
 #[cfg(test)]
 mod stores;

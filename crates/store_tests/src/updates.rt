@@ -1,119 +1,131 @@
-ghost use Rattle.std.specs.Prelude.{◌≤◌};
-
+use crate::made::on_a_store;
 use blend_rules::{Plane, Px};
 use image_store::{Gens, Store, StoreError};
-use std::alloc::Global;
-use std::test::Fail;
 
-/// A store with one clear image of 3 by 2 under pipeline 0 and key 7.
-fn clear_image(alloc: Global, gens: &mut Gens) -> Result<Store, StoreError> {
-    let mut store = Store::new(alloc);
-    store.add_image(gens, 0, 7, 3, 2, &[0; 24])?;
-    Ok(store)
+/// Adds one clear image of 3 by 2 under pipeline 0 and key 7.
+fn add_clear(store: &mut Store, gens: &mut Gens) -> Result<(), StoreError> {
+    store.add_image(gens, 0, 7, 3, 2, &[0; 24])
 }
 
-/// Writes one white texel, and gives the alphas of both rows.
-fn with_white(alloc: Global, x: u16, y: u16) -> Result<[u8; 6], StoreError> {
+/// Whether the alphas of the image are these, row by row.
+fn has_alphas(store: &Store, rows: [[u8; 3]; 2]) -> bool {
+    let Some(image) = store.image(0, 7) else {
+        return false;
+    };
+    if image.h() != 2 {
+        return false;
+    }
+    image.row(Plane::A, 0) == rows[0].as_slice() && image.row(Plane::A, 1) == rows[1].as_slice()
+}
+
+/// Writes one white texel into a clear image.
+fn write_white(store: &mut Store, x: u16, y: u16) -> Result<(), StoreError> {
     let mut gens = Gens::new();
-    let mut store = clear_image(alloc, &mut gens)?;
-    store.update(&mut gens, 0, 7, x, y, 1, 1, &[255; 4])?;
-    let mut alphas = [9; 6];
-    if let Some(image) = store.image(0, 7) {
-        for row in 0..2u16.min(image.h()) {
-            let bytes = image.row(Plane::A, row);
-            for column in 0..3.min(bytes.len()) {
-                alphas[usize::from(row) * 3 + column] = bytes[column];
-            }
+    add_clear(store, &mut gens)?;
+    store.update(&mut gens, 0, 7, x, y, 1, 1, &[255; 4])
+}
+
+/// Texels at the corners, and the alphas of both rows after them.
+const CORNERS: [(u16, u16, [[u8; 3]; 2]); 4] = [
+    (0, 0, [[255, 0, 0], [0, 0, 0]]),
+    (2, 0, [[0, 0, 255], [0, 0, 0]]),
+    (0, 1, [[0, 0, 0], [255, 0, 0]]),
+    (2, 1, [[0, 0, 0], [0, 0, 255]]),
+];
+
+/// Whether an update reaches each corner, and nothing else.
+fn reaches_corners(store: &mut Store) -> Result<bool, StoreError> {
+    for (x, y, rows) in CORNERS {
+        write_white(store, x, y)?;
+        if !has_alphas(store, rows) {
+            return Ok(false);
         }
     }
-    Ok(alphas)
+    Ok(true)
 }
 
 #[test]
-fn an_update_reaches_each_corner(rt: HostRuntime) -> Result<(), Fail> {
-    assert_eq!(rt; with_white(rt.alloc(), 0, 0)?, [255, 0, 0, 0, 0, 0]);
-    assert_eq!(rt; with_white(rt.alloc(), 2, 0)?, [0, 0, 255, 0, 0, 0]);
-    assert_eq!(rt; with_white(rt.alloc(), 0, 1)?, [0, 0, 0, 255, 0, 0]);
-    assert_eq!(rt; with_white(rt.alloc(), 2, 1)?, [0, 0, 0, 0, 0, 255]);
-    Ok(())
+fn an_update_reaches_each_corner(rt: HostRuntime) {
+    assert!(rt; on_a_store(rt.alloc(), reaches_corners) == Ok(true));
+}
+
+/// Texels beyond an edge, and the refusal of an update there.
+const BEYOND: [(u16, u16, StoreError); 5] = [
+    (3, 0, StoreError::OutOfWidth),
+    (0, 2, StoreError::OutOfHeight),
+    (3, 2, StoreError::OutOfWidth),
+    (65535, 0, StoreError::OutOfWidth),
+    (0, 65535, StoreError::OutOfHeight),
+];
+
+/// Whether each is refused.
+fn refuses_beyond(store: &mut Store) -> Result<bool, StoreError> {
+    for (x, y, refusal) in BEYOND {
+        if write_white(store, x, y) != Err(refusal) {
+            return Ok(false);
+        }
+    }
+    Ok(true)
 }
 
 #[test]
-fn one_beyond_an_edge_is_refused(rt: HostRuntime) -> Result<(), Fail> {
-    let alloc = rt.alloc();
-    assert_eq!(rt; with_white(alloc, 3, 0), Err(StoreError::OutOfWidth));
-    assert_eq!(rt; with_white(alloc, 0, 2), Err(StoreError::OutOfHeight));
-    assert_eq!(rt; with_white(alloc, 3, 2), Err(StoreError::OutOfWidth));
-    assert_eq!(rt; with_white(alloc, 65535, 0), Err(StoreError::OutOfWidth));
-    assert_eq!(rt; with_white(alloc, 0, 65535), Err(StoreError::OutOfHeight));
-    Ok(())
+fn one_beyond_an_edge_is_refused(rt: HostRuntime) {
+    assert!(rt; on_a_store(rt.alloc(), refuses_beyond) == Ok(true));
 }
 
-#[test]
-fn an_update_fills_the_image(rt: HostRuntime) -> Result<(), Fail> {
+/// Whether an update of the whole image makes it opaque, and counts once.
+fn fills(store: &mut Store) -> Result<bool, StoreError> {
     let mut gens = Gens::new();
-    let mut store = clear_image(rt.alloc(), &mut gens)?;
+    add_clear(store, &mut gens)?;
     store.update(&mut gens, 0, 7, 0, 0, 3, 2, &[255; 24])?;
-    let image = store.image(0, 7).ok_or("no image")?;
-    assert!(rt; image.opaque());
-    assert_eq!(rt; image.generation(), 2);
-    assert_eq!(rt; gens.last(), 2);
-    Ok(())
+    let Some(image) = store.image(0, 7) else {
+        return Ok(false);
+    };
+    Ok(image.opaque() && image.generation() == 2 && gens.last() == 2)
 }
 
 #[test]
-fn an_update_reaches_over_bands(rt: HostRuntime) -> Result<(), Fail> {
+fn an_update_fills_the_image(rt: HostRuntime) {
+    assert!(rt; on_a_store(rt.alloc(), fills) == Ok(true));
+}
+
+fn grey(level: u8) -> Px {
+    Px {
+        b: level,
+        g: level,
+        r: level,
+        a: level,
+    }
+}
+
+/// Rows of a column of texels, and their greys after an update of the rows 63 and 64.
+const GREYS: [(u16, u8); 5] = [(62, 7), (63, 1), (64, 2), (65, 7), (129, 7)];
+
+/// Whether an image of one column has these greys.
+fn has_greys(store: &Store) -> bool {
+    let Some(image) = store.image(0, 1) else {
+        return false;
+    };
+    if image.w() != 1 || image.h() != 130 {
+        return false;
+    }
+    for (row, level) in GREYS {
+        if row >= 130 || image.texel(0, row) != grey(level) {
+            return false;
+        }
+    }
+    true
+}
+
+/// Whether an update over two bands reaches its texels alone.
+fn reaches_over_bands(store: &mut Store) -> Result<bool, StoreError> {
     let mut gens = Gens::new();
-    let mut store = Store::new(rt.alloc());
     store.add_image(&mut gens, 0, 1, 1, 130, &[7; 520])?;
     store.update(&mut gens, 0, 1, 0, 63, 1, 2, &[1, 1, 1, 1, 2, 2, 2, 2])?;
-    let image = store.image(0, 1).ok_or("no image")?;
-    if image.w() == 1 && image.h() == 130 {
-        assert_eq!(rt;
-            image.texel(0, 62),
-            Px {
-                b: 7,
-                g: 7,
-                r: 7,
-                a: 7
-            }
-        );
-        assert_eq!(rt;
-            image.texel(0, 63),
-            Px {
-                b: 1,
-                g: 1,
-                r: 1,
-                a: 1
-            }
-        );
-        assert_eq!(rt;
-            image.texel(0, 64),
-            Px {
-                b: 2,
-                g: 2,
-                r: 2,
-                a: 2
-            }
-        );
-        assert_eq!(rt;
-            image.texel(0, 65),
-            Px {
-                b: 7,
-                g: 7,
-                r: 7,
-                a: 7
-            }
-        );
-        assert_eq!(rt;
-            image.texel(0, 129),
-            Px {
-                b: 7,
-                g: 7,
-                r: 7,
-                a: 7
-            }
-        );
-    }
-    Ok(())
+    Ok(has_greys(store))
+}
+
+#[test]
+fn an_update_reaches_over_bands(rt: HostRuntime) {
+    assert!(rt; on_a_store(rt.alloc(), reaches_over_bands) == Ok(true));
 }

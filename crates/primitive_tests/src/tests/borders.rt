@@ -1,12 +1,11 @@
 //! Sides and corners of borders.
 
-use super::made::{BLUE, RED, four, grey, plain, rect};
+use super::made::{BLUE, RED, four_of, grey, on_a_store, opaque};
 use blend_rules::Px;
 use image_store::Store;
-use primitives::{BorderColours, Kind, Primitive, border_colour, is_opaque};
+use primitives::{BorderColours, Kind, border_colour};
 use std::alloc::Global;
-use std::test::Fail;
-use wr_geom::{Radii, Widths};
+use wr_geom::{Radii, Rect, Widths};
 
 const WIDTHS: Widths = Widths {
     top: 2,
@@ -27,82 +26,91 @@ fn sides(widths: Widths, radii: Radii) -> Kind {
     }
 }
 
-/// Such a border in the rectangle from (0, 0) to (4, 4).
-fn border(alloc: Global, radii: Radii) -> Result<Primitive, Fail> {
-    plain(alloc, sides(WIDTHS, radii), rect(0, 0, 4, 4)?)
+/// Row y of such a border in the rectangle from (0, 0) to (4, 4).
+fn row(alloc: Global, radii: Radii, store: &Store, y: i8) -> Option<[Px; 4]> {
+    four_of(
+        alloc,
+        sides(WIDTHS, radii),
+        Rect::new(0, 0, 4, 4)?,
+        store,
+        0,
+        y,
+    )
+}
+
+/// Whether the pixels of its upper half have their side, and those of its lower half.
+fn has_sides(alloc: Global, store: &mut Store) -> Option<bool> {
+    let upper = row(alloc, Radii::SQUARE, store, 0)? == [RED; 4]
+        && row(alloc, Radii::SQUARE, store, 1)? == [grey(9), RED, RED, grey(255)];
+    let within = [grey(9), Px::CLEAR, Px::CLEAR, grey(255)];
+    let lower = row(alloc, Radii::SQUARE, store, 2)? == within;
+    Some(upper && lower && row(alloc, Radii::SQUARE, store, 3)? == [BLUE; 4])
 }
 
 #[test]
-fn upper_pixels_have_their_side(rt: HostRuntime) -> Result<(), Fail> {
-    let p = border(rt.alloc(), Radii::SQUARE)?;
-    let store = Store::new(rt.alloc());
-    assert_eq!(rt; four(&p, &store, 0, 0), [RED; 4]);
-    assert_eq!(rt; four(&p, &store, 0, 1), [grey(9), RED, RED, grey(255)]);
-    Ok(())
+fn pixels_have_their_side(rt: HostRuntime) {
+    assert!(rt; on_a_store(rt.alloc(), has_sides));
+}
+
+const ROUND: Radii = Radii {
+    tl: (2, 2),
+    tr: (0, 0),
+    br: (0, 0),
+    bl: (0, 0),
+};
+
+/// Red of this alpha.
+fn red(alpha: u8) -> Px {
+    Px {
+        r: alpha,
+        a: alpha,
+        ..Px::CLEAR
+    }
+}
+
+/// Whether a round corner covers a part: 6 and 15 of 16 samples lie in the outer shape, and none in the inner one.
+fn covers_a_part(alloc: Global, store: &mut Store) -> Option<bool> {
+    let first = row(alloc, ROUND, store, 0)? == [red(96), red(239), RED, RED];
+    let opaque = opaque(alloc, sides(WIDTHS, ROUND), Rect::new(0, 0, 4, 4)?, store)?;
+    Some(first && !opaque)
 }
 
 #[test]
-fn lower_pixels_have_their_side(rt: HostRuntime) -> Result<(), Fail> {
-    let p = border(rt.alloc(), Radii::SQUARE)?;
-    let store = Store::new(rt.alloc());
-    assert_eq!(rt;
-        four(&p, &store, 0, 2),
-        [grey(9), Px::CLEAR, Px::CLEAR, grey(255)]
-    );
-    assert_eq!(rt; four(&p, &store, 0, 3), [BLUE; 4]);
-    Ok(())
+fn a_round_corner_covers_a_part(rt: HostRuntime) {
+    assert!(rt; on_a_store(rt.alloc(), covers_a_part));
 }
 
-#[test]
-fn a_round_corner_covers_a_part(rt: HostRuntime) -> Result<(), Fail> {
-    let radii = Radii {
-        tl: (2, 2),
-        ..Radii::SQUARE
-    };
-    let p = border(rt.alloc(), radii)?;
-    let store = Store::new(rt.alloc());
-    // 6 and 15 of 16 samples lie in the outer shape, and none in the inner one.
-    let (first, second) = (
-        Px {
-            r: 96,
-            a: 96,
-            ..Px::CLEAR
-        },
-        Px {
-            r: 239,
-            a: 239,
-            ..Px::CLEAR
-        },
-    );
-    assert_eq!(rt; four(&p, &store, 0, 0), [first, second, RED, RED]);
-    assert!(rt; !is_opaque(&p, &store));
-    Ok(())
-}
-
-#[test]
-fn widths_and_radii_must_fit(rt: HostRuntime) -> Result<(), Fail> {
-    let place = rect(0, 0, 4, 4)?;
-    let wide = sides(Widths { left: 4, ..WIDTHS }, Radii::SQUARE);
+/// Whether widths and radii that are longer than a side don't fit.
+fn refuses_long_sides() -> Option<bool> {
+    let place = Rect::new(0, 0, 4, 4)?;
     let radii = Radii {
         tl: (3, 1),
         tr: (2, 1),
         ..Radii::SQUARE
     };
-    let round = sides(WIDTHS, radii);
-    assert!(rt; !wide.fits(place) && !round.fits(place));
-    Ok(())
+    let wide = sides(Widths { left: 4, ..WIDTHS }, Radii::SQUARE).fits(place);
+    Some(!wide && !sides(WIDTHS, radii).fits(place))
 }
 
 #[test]
-fn a_pixel_of_a_border_has_a_colour(rt: HostRuntime) -> Result<(), Fail> {
-    let place = rect(0, 0, 4, 4)?;
-    let colours = BorderColours {
-        top: RED,
-        right: RED,
-        bottom: RED,
-        left: BLUE,
-    };
-    let colour = border_colour(place, WIDTHS, colours, Radii::SQUARE, 0, 1);
-    assert_eq!(rt; colour, BLUE);
-    Ok(())
+fn widths_and_radii_must_fit(rt: HostRuntime) {
+    assert!(rt; refuses_long_sides() == Some(true));
+}
+
+const COLOURS: BorderColours = BorderColours {
+    top: RED,
+    right: RED,
+    bottom: RED,
+    left: BLUE,
+};
+
+/// Whether a pixel of the left side has its colour.
+fn is_blue() -> Option<bool> {
+    let place = Rect::new(0, 0, 4, 4)?;
+    Some(border_colour(place, WIDTHS, COLOURS, Radii::SQUARE, 0, 1) == BLUE)
+}
+
+#[test]
+fn a_pixel_of_a_border_has_a_colour(rt: HostRuntime) {
+    assert!(rt; is_blue() == Some(true));
 }

@@ -1,14 +1,10 @@
 //! Primitives, stores and rows of colours that the tests share.
 
-ghost use Rattle.std.specs.Prelude.{◌≡◌, [], IfOk};
-ghost use Rattle.primitives.specs.declared.kind.Kind.TheVariants as kind;
-
 use blend_rules::Px;
 use containers::Sequence;
 use image_store::{Gens, Store, StoreError};
-use primitives::{Kind, Primitive, colour_at};
+use primitives::{Kind, Primitive, colour_at, is_opaque};
 use std::alloc::Global;
-use std::test::Fail;
 use wr_geom::Rect;
 
 pub(crate) const RED: Px = Px {
@@ -34,37 +30,30 @@ pub(crate) fn grey(level: u8) -> Px {
     }
 }
 
-pub(crate) fn rect(x0: i32, y0: i32, x1: i32, y1: i32) -> Result<Rect, Fail>
-    ensures { IfOk result (λ r. r ≡ record { x0 = x0; y0 = y0; x1 = x1; y1 = y1 }) }
+/// What a check answers on a new store. False where it answers nothing.
+pub(crate) fn on_a_store<F: FnOnce(Global, &mut Store) -> Option<bool>>(
+    alloc: Global,
+    check: F,
+) -> bool
+    requires { F.IsAlwaysCallable check }
 {
-    Ok(Rect::new(x0, y0, x1, y1).ok_or("no rectangle")?)
-}
-
-/// Without clips.
-pub(crate) fn plain(alloc: Global, kind: Kind, rect: Rect) -> Result<Primitive, Fail>
-    ensures { IfOk result (λ p. p ≡ record { kind = kind; rect = rect; clips = [] }) }
-{
-    let made = Primitive::new(kind, rect, Sequence::new(alloc));
-    Ok(made.ok_or("doesn't fit")?)
-}
-
-/// A store with the images 9 and 8 of pipeline 1: 2 by 2 texels, grey 1 and 2 above 3 and 4, and a white one.
-pub(crate) fn stored_images(alloc: Global) -> Result<Store, StoreError> {
     let mut store = Store::new(alloc);
+    check(alloc, &mut store) == Some(true)
+}
+
+/// Adds the images 9 and 8 of pipeline 1: 2 by 2 texels, grey 1 and 2 above 3 and 4, and a white one.
+pub(crate) fn add_images(store: &mut Store) -> Result<(), StoreError> {
     let mut gens = Gens::new();
     let bytes = [1, 1, 1, 1, 2, 2, 2, 2, 3, 3, 3, 3, 4, 4, 4, 4];
     store.add_image(&mut gens, 1, 9, 2, 2, &bytes)?;
-    store.add_image(&mut gens, 1, 8, 1, 1, &[255, 255, 255, 255])?;
-    Ok(store)
+    store.add_image(&mut gens, 1, 8, 1, 1, &[255, 255, 255, 255])
 }
 
-/// A store with the glyphs 5 and 7 of font (1, 3): 2 by 1 pixels of 1 and 200, and one pixel of 128.
-pub(crate) fn stored_glyphs(alloc: Global) -> Result<Store, StoreError> {
-    let mut store = Store::new(alloc);
+/// Adds the glyphs 5 and 7 of font (1, 3): 2 by 1 pixels of 1 and 200, and one pixel of 128.
+pub(crate) fn add_glyphs(store: &mut Store) -> Result<(), StoreError> {
     let mut gens = Gens::new();
     store.add_glyph(&mut gens, 1, 3, 5, 2, 1, &[1, 200])?;
-    store.add_glyph(&mut gens, 1, 3, 7, 1, 1, &[128])?;
-    Ok(store)
+    store.add_glyph(&mut gens, 1, 3, 7, 1, 1, &[128])
 }
 
 /// Four colours of a row, from (x, y) on.
@@ -76,4 +65,23 @@ pub(crate) fn four(p: &Primitive, store: &Store, x: i8, y: i8) -> [Px; 4] {
         colour_at(p, store, x + 2, y),
         colour_at(p, store, x + 3, y),
     ]
+}
+
+/// Four colours of a row of a primitive without clips, from (x, y) on. None where the kind doesn't fit the rectangle.
+pub(crate) fn four_of(
+    alloc: Global,
+    kind: Kind,
+    rect: Rect,
+    store: &Store,
+    x: i8,
+    y: i8,
+) -> Option<[Px; 4]> {
+    let p = Primitive::new(kind, rect, Sequence::new(alloc))?;
+    Some(four(&p, store, x, y))
+}
+
+/// Whether a primitive without clips is opaque. None where the kind doesn't fit the rectangle.
+pub(crate) fn opaque(alloc: Global, kind: Kind, rect: Rect, store: &Store) -> Option<bool> {
+    let p = Primitive::new(kind, rect, Sequence::new(alloc))?;
+    Some(is_opaque(&p, store))
 }

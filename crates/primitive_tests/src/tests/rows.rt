@@ -2,14 +2,13 @@
 
 ghost use Rattle.std.specs.Prelude.{◌≤◌, length};
 
-use super::made::{BLUE, RED, grey, plain, rect};
+use super::made::{BLUE, RED, grey, on_a_store};
 use blend_rules::{Plane, Px};
 use containers::Sequence;
 use image_store::{Gens, Store, StoreError};
 use primitives::{GlyphUse, Kind, Primitive, colour_at, colour_row};
-use std::alloc::Global;
-use std::test::Fail;
-use wr_geom::{Radii, Widths};
+use std::alloc::{AllocError, Global};
+use wr_geom::{Radii, Rect, Widths};
 
 const ORANGE: Px = Px {
     b: 10,
@@ -18,23 +17,23 @@ const ORANGE: Px = Px {
     a: 200,
 };
 
-/// A store with an image of 5 by 2 texels under the key 9 of pipeline 1, and with glyphs of font (1, 3): glyph 5 of 20 by
-/// 2 pixels, and glyph 7 of 2 by 3.
-fn stored(alloc: Global) -> Result<Store, StoreError> {
-    let mut store = Store::new(alloc);
+const TEXELS: [u8; 40] = [
+    1, 2, 3, 4, 5, 6, 7, 8, 9, 10, 11, 12, 13, 14, 15, 16, 17, 18, 19, 20, //
+    21, 22, 23, 24, 25, 26, 27, 28, 29, 30, 31, 32, 33, 34, 35, 36, 37, 38, 39, 40,
+];
+
+const WIDE: [u8; 40] = [
+    0, 13, 26, 39, 52, 65, 78, 91, 104, 117, 130, 143, 156, 169, 182, 195, 208, 221, 234, 255, //
+    255, 1, 254, 2, 253, 3, 252, 4, 251, 5, 250, 6, 249, 7, 248, 8, 247, 9, 246, 10,
+];
+
+/// Adds an image of 5 by 2 texels under the key 9 of pipeline 1, and glyphs of font (1, 3): glyph 5 of 20 by 2 pixels, and
+/// glyph 7 of 2 by 3.
+fn add_all(store: &mut Store) -> Result<(), StoreError> {
     let mut gens = Gens::new();
-    let texels = [
-        1, 2, 3, 4, 5, 6, 7, 8, 9, 10, 11, 12, 13, 14, 15, 16, 17, 18, 19, 20, //
-        21, 22, 23, 24, 25, 26, 27, 28, 29, 30, 31, 32, 33, 34, 35, 36, 37, 38, 39, 40,
-    ];
-    store.add_image(&mut gens, 1, 9, 5, 2, &texels)?;
-    let wide = [
-        0, 13, 26, 39, 52, 65, 78, 91, 104, 117, 130, 143, 156, 169, 182, 195, 208, 221, 234, 255, //
-        255, 1, 254, 2, 253, 3, 252, 4, 251, 5, 250, 6, 249, 7, 248, 8, 247, 9, 246, 10,
-    ];
-    store.add_glyph(&mut gens, 1, 3, 5, 20, 2, &wide)?;
-    store.add_glyph(&mut gens, 1, 3, 7, 2, 3, &[100, 200, 128, 255, 0, 50])?;
-    Ok(store)
+    store.add_image(&mut gens, 1, 9, 5, 2, &TEXELS)?;
+    store.add_glyph(&mut gens, 1, 3, 5, 20, 2, &WIDE)?;
+    store.add_glyph(&mut gens, 1, 3, 7, 2, 3, &[100, 200, 128, 255, 0, 50])
 }
 
 /// Whether each byte of a row from (x0, y) on is that of the colour at its point.
@@ -75,17 +74,10 @@ fn are_rows(p: &Primitive, store: &Store) -> bool {
     true
 }
 
-/// A kind in that rectangle.
-fn made(alloc: Global, kind: Kind) -> Result<Primitive, Fail> {
-    plain(alloc, kind, rect(-3, 2, 29, 6)?)
-}
-
-#[test]
-fn solid_rows_have_their_colours(rt: HostRuntime) -> Result<(), Fail> {
-    let p = made(rt.alloc(), Kind::Solid(ORANGE))?;
-    let store = Store::new(rt.alloc());
-    assert!(rt; are_rows(&p, &store));
-    Ok(())
+/// Whether the rows of a kind in that rectangle do. None where it doesn't fit.
+fn agree(alloc: Global, kind: Kind, rect: Rect, store: &Store) -> Option<bool> {
+    let p = Primitive::new(kind, rect, Sequence::new(alloc))?;
+    Some(are_rows(&p, store))
 }
 
 /// An image of pipeline 1 from its texel (13, 3) on.
@@ -99,19 +91,23 @@ fn image(key: u32, generation: Option<u64>) -> Kind {
     }
 }
 
-#[test]
-fn image_rows_have_their_colours(rt: HostRuntime) -> Result<(), Fail> {
-    let store = stored(rt.alloc())?;
-    for kind in [image(9, Some(1)), image(9, None), image(8, Some(1))] {
-        let p = made(rt.alloc(), kind)?;
-        assert!(rt; are_rows(&p, &store));
-    }
-    Ok(())
+/// Whether the rows of images do, of one without a generation, and of one that is absent.
+fn image_rows(alloc: Global, store: &mut Store) -> Option<bool> {
+    add_all(store).ok()?;
+    let place = Rect::new(-3, 2, 29, 6)?;
+    let used = agree(alloc, image(9, Some(1)), place, store)?;
+    let unset = agree(alloc, image(9, None), place, store)?;
+    Some(used && unset && agree(alloc, image(8, Some(1)), place, store)?)
 }
 
 #[test]
-fn border_rows_have_their_colours(rt: HostRuntime) -> Result<(), Fail> {
-    let kind = Kind::Border {
+fn image_rows_have_their_colours(rt: HostRuntime) {
+    assert!(rt; on_a_store(rt.alloc(), image_rows));
+}
+
+/// A border with four colours and two round corners.
+fn border() -> Kind {
+    Kind::Border {
         widths: Widths {
             top: 1,
             right: 3,
@@ -127,11 +123,19 @@ fn border_rows_have_their_colours(rt: HostRuntime) -> Result<(), Fail> {
             br: (7, 3),
             ..Radii::SQUARE
         },
-    };
-    let p = made(rt.alloc(), kind)?;
-    let store = Store::new(rt.alloc());
-    assert!(rt; are_rows(&p, &store));
-    Ok(())
+    }
+}
+
+/// Whether the rows of a solid do, and those of a border.
+fn shape_rows(alloc: Global, store: &mut Store) -> Option<bool> {
+    let place = Rect::new(-3, 2, 29, 6)?;
+    let solid = agree(alloc, Kind::Solid(ORANGE), place, store)?;
+    Some(solid && agree(alloc, border(), place, store)?)
+}
+
+#[test]
+fn solid_and_border_rows_have_their_colours(rt: HostRuntime) {
+    assert!(rt; on_a_store(rt.alloc(), shape_rows));
 }
 
 fn glyph(glyph: u16, x: i32, y: i32, generation: Option<u64>) -> GlyphUse {
@@ -143,8 +147,8 @@ fn glyph(glyph: u16, x: i32, y: i32, generation: Option<u64>) -> GlyphUse {
     }
 }
 
-#[test]
-fn text_rows_have_their_colours(rt: HostRuntime) -> Result<(), Fail> {
+/// A text with glyphs that overlap, that are absent or without a generation, and that lie outside.
+fn text(alloc: Global) -> Result<Kind, AllocError> {
     let glyphs = [
         glyph(5, -15, 1, Some(2)),
         glyph(6, 0, 3, Some(9)),
@@ -154,14 +158,22 @@ fn text_rows_have_their_colours(rt: HostRuntime) -> Result<(), Fail> {
         glyph(5, 20, 5, Some(2)),
         glyph(7, 400_000_000, 3, Some(3)),
     ];
-    let kind = Kind::Text {
+    Ok(Kind::Text {
         pipeline: 1,
         font: 3,
         colour: ORANGE,
-        glyphs: Sequence::from_vec(Vec::from_slice(rt.alloc(), &glyphs)?),
-    };
-    let p = made(rt.alloc(), kind)?;
-    let store = stored(rt.alloc())?;
-    assert!(rt; are_rows(&p, &store));
-    Ok(())
+        glyphs: Sequence::from_vec(Vec::from_slice(alloc, &glyphs)?),
+    })
+}
+
+/// Whether its rows do.
+fn text_rows(alloc: Global, store: &mut Store) -> Option<bool> {
+    add_all(store).ok()?;
+    let place = Rect::new(-3, 2, 29, 6)?;
+    agree(alloc, text(alloc).ok()?, place, store)
+}
+
+#[test]
+fn text_rows_have_their_colours(rt: HostRuntime) {
+    assert!(rt; on_a_store(rt.alloc(), text_rows));
 }
