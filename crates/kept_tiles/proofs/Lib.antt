@@ -11,3 +11,4 @@ pub mod Fitting
 pub mod Slices
 pub mod Trimming
 pub mod Shows
+pub mod Counting

@@ -22,7 +22,7 @@ kept_append : (k : Records) (xs ys : List Shown) → (tiles_work k (xs ++ ys)).k
 kept_append k [] ys = refl
 kept_append k (x ∷ xs) ys = kept_append (tile_work k x).kept xs ys
 
-cost_append : (k : Records) (xs ys : List Shown) → (tiles_work k (xs ++ ys)).cost ≡ (tiles_work k xs).cost + (tiles_work (tiles_work k xs).kept ys).cost
+pub cost_append : (k : Records) (xs ys : List Shown) → (tiles_work k (xs ++ ys)).cost ≡ (tiles_work k xs).cost + (tiles_work (tiles_work k xs).kept ys).cost
 cost_append k [] ys = omega arith
 cost_append k (x ∷ xs) ys = let h = cost_append (tile_work k x).kept xs ys in omega (arith, h)
 
@@ -65,6 +65,23 @@ underway_step old now next all xs left u d l =
 
 pub underway_done : (old now : KeptModel) (all : List Shown) → IsUnderway old now all [] → IsWorkDone old now (work_on old all)
 underway_done old now all u = record { kept = u.kept; opened = sym (opened_none now.store.opened u.fits) ∙ u.opened }
+
+-- what was drawn so far, with the cost of what is left, is the cost of all
+pub record IsCounting (old now : KeptModel) (all left : List Shown) (drawn : ℕ) : Type 0 where
+  pub sum : drawn + (work_on now left).cost ≡ (work_on old all).cost
+
+pub counting_start : (s : KeptModel) (all : List Shown) → IsCounting s s all all 0
+counting_start s all = record { sum = omega arith }
+
+pub counting_step : (old now next : KeptModel) (all xs left : List Shown) (drawn more : ℕ) → IsCounting old now all (xs ++ left) drawn → IsWorkDone now next (work_on now xs) → more ≡ drawn + (work_on now xs).cost
+    → IsCounting old next all left more
+counting_step old now next all xs left drawn more c d e =
+    let a = cost_here now next xs left d in
+    let b = c.sum in
+    record { sum = omega (arith, a, b, e) }
+
+pub counting_done : (old now : KeptModel) (all : List Shown) (drawn : ℕ) → IsCounting old now all [] drawn → drawn ≡ (work_on old all).cost
+counting_done old now all drawn c = let a = c.sum in omega (arith, a)
 
 -- where it has come so far, it is within the whole
 pub underway_within : (old now : KeptModel) (all left : List Shown) → IsUnderway old now all left → IsWithin old now all
@@ -118,9 +135,12 @@ module _ (a b : KeptModel) (same : kept_of b ≡ kept_of a) (stored : b.store �
         ∙ ap (λ (l : List Shown). opened_after a.store.opened (work_on a l).cost) e;
   }
 
+  pub started_cost : (xs ys : List Shown) → xs ≡ ys → (work_on b xs).cost ≡ (work_on a ys).cost
+  started_cost xs ys e = ap (λ k. (tiles_work (records_of k) xs).cost) same ∙ ap (λ (l : List Shown). (work_on a l).cost) e
+
   pub started_within : (new : KeptModel) (xs ys : List Shown) → xs ≡ ys → IsWithin b new xs → IsWithin a new ys
   started_within new xs ys e w =
-      let cost : (work_on b xs).cost ≡ (work_on a ys).cost = ap (λ k. (tiles_work (records_of k) xs).cost) same ∙ ap (λ (l : List Shown). (work_on a l).cost) e in
+      let cost = started_cost xs ys e in
       let opened = ap (λ s. s.opened) stored in
       let count = ap (λ s. length s.tiles) stored in
       let long = ap (λ (l : List Shown). length l) e in

@@ -34,7 +34,7 @@ use Rattle.kept_tiles.specs.Steps.{AreDrawable, ArePlaced}
 use Rattle.kept_tiles.specs.Work.{Shown, IsWorkDone, key_of, records_of, shown_tile, shown_tiles, work_at, work_on}
 use Rattle.kept_tiles.proofs.Claims.{same_claims, under_same}
 use Rattle.kept_tiles.proofs.Lists.{valued_at}
-use Rattle.kept_tiles.proofs.Progress.{IsUnderway, keeps_itself, keeps_then, one_within, one_work, underway_done, underway_start, underway_step, underway_within, within_step}
+use Rattle.kept_tiles.proofs.Progress.{IsCounting, IsUnderway, counting_done, counting_start, counting_step, keeps_itself, keeps_then, one_within, one_work, underway_done, underway_start, underway_step, underway_within, within_step}
 
 -- ---- how much is claimed
 
@@ -212,6 +212,16 @@ module _ (slice : Slice) (grid : GridModel) (store : Resources) (first : KeptMod
     closed = step.closed;
   }
 
+  pub counting_tile : (drawn more : ℕ) → (before ≡ true → IsCounting first (kept_with m old) (shown_tiles slice (tiles_of grid)) (shown_tiles slice (tiles_from grid i (length (next ∷ left)))) drawn)
+      → (after ≡ true → more ≡ drawn + (work_at (records_of (kept_of (kept_with m old))) (key_of slice.key (grid_tile grid i)) (grid_tile grid i).rect (entries_under m (record_keys next))).cost)
+      → after ≡ true → IsCounting first (kept_with n new) (shown_tiles slice (tiles_of grid)) (shown_tiles slice (tiles_from grid (i + 1) (length left))) more
+  counting_tile drawn more counting rise t =
+      let own = ap (λ (es : List Entry). (work_at (records_of (kept_of (kept_with m old))) (key_of slice.key (grid_tile grid i)) (grid_tile grid i).rect es).cost) own_entries in
+      let risen = rise t in
+      subst (λ (k : ℕ). IsCounting first (kept_with n new) (shown_tiles slice (tiles_of grid)) (shown_tiles slice (tiles_from grid k (length left))) more) (sym later)
+      (counting_step first (kept_with m old) (kept_with n new) (shown_tiles slice (tiles_of grid)) (tile ∷ []) (shown_tiles slice (tiles_from grid (suc i) (length left))) drawn more
+      (counting (step.well t)) (tile_done t) (omega (arith, own, risen)))
+
 -- the next record has what is picked for its tile
 pub own_entries_of : (slice : Slice) (grid : GridModel) (store : Resources) (first : KeptModel) (m : Interning) (s : StoreModel TileRecord) (well : Bool) (i : ℕ) (next : TileRecord) (left : List TileRecord)
     → IsShowing slice grid store first m s well i (next ∷ left) → entries_under m (record_keys next) ≡ picked (grid_tile grid i).rect slice.entries
@@ -253,6 +263,18 @@ showing_start slice grid store m s records covers count entries fits placed clos
       placed = placed;
       closed = closed;
     }
+
+pub tiles_counting_start : (slice : Slice) (grid : GridModel) (s : KeptModel) (records : List TileRecord) → length (keys_of_records records) ≡ count_of grid
+    → IsCounting s s (shown_tiles slice (tiles_of grid)) (shown_tiles slice (tiles_from grid 0 (length records))) 0
+tiles_counting_start slice grid s records count =
+    let long : length records ≡ count_of grid = sym (length-map records record_keys) ∙ count in
+    subst (λ (k : ℕ). IsCounting s s (shown_tiles slice (tiles_of grid)) (shown_tiles slice (tiles_from grid 0 k)) 0) (sym long) (counting_start s (shown_tiles slice (tiles_of grid)))
+
+pub tiles_counting_done : (slice : Slice) (grid : GridModel) (first now : KeptModel) (i n drawn : ℕ) → IsCounting first now (shown_tiles slice (tiles_of grid)) (shown_tiles slice (tiles_from grid i n)) drawn
+    → n ≡ 0 → drawn ≡ (work_on first (shown_tiles slice (tiles_of grid))).cost
+tiles_counting_done slice grid first now i n drawn c none =
+    counting_done first now (shown_tiles slice (tiles_of grid)) drawn
+    (subst (λ (k : ℕ). IsCounting first now (shown_tiles slice (tiles_of grid)) (shown_tiles slice (tiles_from grid i k)) drawn) none c)
 
 pub showing_done : (slice : Slice) (grid : GridModel) (store : Resources) (first : KeptModel) (m : Interning) (s : StoreModel TileRecord) (i : ℕ) (left : List TileRecord)
     → IsShowing slice grid store first m s true i left → length left ≡ 0 → IsWorkDone first (kept_with m s) (work_on first (shown_tiles slice (tiles_of grid)))

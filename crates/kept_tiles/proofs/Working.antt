@@ -1,5 +1,5 @@
 -- The work on one tile, by its records.
-use Rattle.std.proofs.Common.{◌≡◌, ◌<◌, ◌≤◌, ◌+◌, ◌^◌, ℕ, suc, Bool, true, false, List, [], ◌∷◌, length, option_map, Option, Some, None, Result, Ok, Err, OnOk, OnErr, refl, sym, ap, ◌∙◌, arith}
+use Rattle.std.proofs.Common.{◌≡◌, ◌<◌, ◌≤◌, ◌+◌, ◌^◌, ℕ, suc, Bool, true, false, List, [], ◌∷◌, length, option_map, Option, Some, None, Result, Ok, Err, IfOk, OnOk, OnErr, refl, sym, ap, ◌∙◌, arith}
 use Rattle.std.specs.Map.{lookup, remove_entry}
 use Rattle.std.proofs.lemmas.Map.Made.{lookup-map_values}
 use Rattle.wr_geom.specs.Bounds.{Bounds, area_of}
@@ -13,7 +13,7 @@ use Rattle.tile_records.specs.Interning.{Interning, entries_under, ids_keys}
 use Rattle.tile_records.specs.declared.id.Id.{Id}
 use Rattle.tile_records.specs.declared.record.TileRecord.{TileRecord}
 use Rattle.kept_tiles.specs.Tiles.{KeptTile, KeptTiles, KeptModel, all_valued, kept_with, kept_of, kept_at, kept_without}
-use Rattle.kept_tiles.specs.Work.{Records, records_of, stale_part, work_at, IsWorkDone}
+use Rattle.kept_tiles.specs.Work.{Records, records_of, stale_area, stale_part, work_at, IsWorkDone}
 use Rattle.kept_tiles.specs.Steps.{ReachedFrom, IsHeaded, IsShown}
 
 pub records_without : (key : TileKey) (es : KeptTiles) → records_of (kept_without key es) ≡ remove_entry (same_key key) (records_of es)
@@ -29,6 +29,13 @@ records_at key es = lookup-map_values (λ (t : KeptTile). t.entries) (same_key k
 stale_from : (o : Option KeptTile) (t : KeptTile) (entries : List Entry) (rect part : Bounds) → ReachedFrom o t entries rect part → part ≡ stale_part (option_map (λ (u : KeptTile). u.entries) o) entries rect
 stale_from None t entries rect part h = h.part_is
 stale_from (Some was) t entries rect part h = h.part_is
+
+-- the part that was drawn is the one that had to be
+pub headed_area : (store : Resources) (old new : KeptModel) (key : TileKey) (rect part : Bounds) (entries : List Entry) → IsHeaded store old new key rect part entries
+    → area_of part ≡ stale_area (records_of (kept_of old)) key rect entries
+headed_area store old new key rect part entries h =
+    ap (λ (b : Bounds). area_of b) (stale_from (kept_at key (kept_of old)) h.was entries rect part h.from)
+    ∙ ap (λ (o : Option (List Entry)). area_of (stale_part o entries rect)) (sym (records_at key (kept_of old)))
 
 headed_some : (store : Resources) (old new : KeptModel) (key : TileKey) (rect part : Bounds) (e : Entry) (es : List Entry) → IsHeaded store old new key rect part (e ∷ es)
     → IsWorkDone old new (work_at (records_of (kept_of old)) key rect (e ∷ es))
@@ -82,6 +89,10 @@ module _ {T E : Type 0} {P Q : Type 0} where
   pub either : {R : Type 0} (r : Result T E) → OnOk r P → OnErr r Q → (P → R) → (Q → R) → R
   either (Ok x) h k f g = f h
   either (Err e) h k f g = g k
+
+pub if_ok : {T E : Type 0} (P Q : T → Type 0) (r : Result T E) → IfOk r P → ((x : T) → P x → Q x) → IfOk r Q
+if_ok P Q (Ok x) h f = f x h
+if_ok P Q (Err e) h f = tt
 
 -- an empty list of ids
 pub no_ids : (m : Interning) (ids : List Id) → length ids ≡ 0 → (ids_keys ids ≡ []) × (entries_under m (ids_keys ids) ≡ [])

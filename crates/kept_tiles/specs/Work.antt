@@ -38,11 +38,15 @@ abbrev pub stale_part : Option (List Entry) → List Entry → Bounds → Bounds
 stale_part None new rect = rect
 stale_part (Some old) new rect = dirt old new rect
 
+-- how many pixels have to be drawn of a tile that has something to show
+abbrev pub stale_area : Records → TileKey → Bounds → List Entry → ℕ
+stale_area kept key rect entries = area_of (stale_part (lookup (same_key key) kept) entries rect)
+
 abbrev pub work_at : Records → TileKey → Bounds → List Entry → Work
 work_at kept key rect [] = record { kept = remove_entry (same_key key) kept; cost = 0 }
 work_at kept key rect (e ∷ es) = record {
   kept = (key, e ∷ es) ∷ remove_entry (same_key key) kept;
-  cost = area_of (stale_part (lookup (same_key key) kept) (e ∷ es) rect);
+  cost = stale_area kept key rect (e ∷ es);
 }
 
 -- the work on one tile: one with nothing to show is kept no longer, another is kept with its record as the most recent

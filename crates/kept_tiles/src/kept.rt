@@ -73,28 +73,31 @@ impl KeptTiles {
 
     /// Shows the visible tiles of slices, back to front, by row and then by column. A tile without an entry is kept no
     /// longer. Another is drawn where its old record and its new one can differ, takes the new one, and is the most recent;
-    /// a tile that isn't kept is drawn whole. Where memory runs out, some tiles have been shown.
+    /// a tile that isn't kept is drawn whole. Answers how many pixels were drawn. Where memory runs out, some tiles have been
+    /// shown.
     pub fn show_slices(
         &mut self,
         slices: &[Slice],
         sides: TileSides,
         store: &Store,
         scratch: &mut Scratch,
-    ) -> Result<(), NoMemory>
+    ) -> Result<u64, NoMemory>
         requires sides { AreTileSides sides }
         requires slices { All (CanBeShown store.now) slices.now }
         requires room { length self.old.store.tiles + length (frame_tiles sides slices.now) ≤ MAX_TILES }
         requires placed { ArePlaced sides (kept_of self.old) }
         requires wide { sides.width ≤ scratch.old.width }
         ensures work { OnOk result (IsWorkDone self.old self.new (work_on self.old (frame_tiles sides slices.now))) }
+        ensures drawn { IfOk result (λ drawn. drawn ≡ (work_on self.old (frame_tiles sides slices.now)).cost) }
         ensures within { IsWithin self.old self.new (frame_tiles sides slices.now) }
         ensures keeps { KeepsSound sides store.now self.old self.new }
         ensures placed { ArePlaced sides (kept_of self.new) }
         ensures scratch { scratch.new ≡ scratch.old }
     {
         let _before = self.tiles.opened();
+        let mut drawn: u64 = 0;
         for slice in slices {
-            show_slice(
+            drawn += show_slice(
                 &mut self.interner,
                 &mut self.tiles,
                 self.alloc,
@@ -104,7 +107,7 @@ impl KeptTiles {
                 scratch,
             )?;
         }
-        Ok(())
+        Ok(drawn)
     }
 
     /// Gives up the least recent tiles, until at most `budget` are left. It takes no memory.

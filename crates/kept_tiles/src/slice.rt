@@ -1,6 +1,7 @@
 //! The tiles of a slice, shown one after another.
 
-ghost use Rattle.std.specs.Prelude.{◌≡◌, ◌≤◌, ◌<◌, ◌+◌, ◌++◌, [], ℕ, None, IfSome, OnOk, IsTrue, IsFalse, length, get_or};
+ghost use Rattle.std.specs.Prelude.{◌≡◌, ◌≤◌, ◌<◌, ◌+◌, ◌^◌, ◌++◌, [], ℕ, None, length, get_or};
+ghost use Rattle.std.specs.Prelude.{IfSome, IfOk, OnOk, IsTrue, IsFalse};
 ghost use Rattle.wr_geom.specs.Bounds.{width_of};
 ghost use Rattle.tile_grid.specs.Grids.{IsViewPart, IsWithinReach, count_of, tiles_of, tile_at as grid_tile_at};
 ghost use Rattle.tile_grid.specs.Tiles.{AreTileSides, tile_rect};
@@ -39,7 +40,8 @@ fn place_at(slice: SliceKey, grid: TileGrid, i: usize) -> Place
     }
 }
 
-/// Shows a tile, unless memory ran out before: its record is given up then. Answers whether memory has sufficed.
+/// Shows a tile, unless memory ran out before: its record is given up then. Answers whether memory has sufficed, and adds the
+/// pixels that were drawn to the count of those drawn so far.
 fn show_next(
     interner: &mut Interner,
     tiles: &mut TileStore<TileRecord>,
@@ -49,6 +51,7 @@ fn show_next(
     store: &Store,
     scratch: &mut Scratch,
     is_well: bool,
+    drawn: &mut u64,
 ) -> bool
     requires closed { tiles.old.window ≡ None }
     requires room { IsTrue is_well → length tiles.old.tiles < MAX_TILES }
@@ -57,9 +60,13 @@ fn show_next(
     requires wide { width_of place.now.rect ≤ scratch.old.width }
     requires covers { Covers interner.old (record_keys next ++ claims tiles.old.tiles) }
     requires drawable { AreDrawable store.now (entries_under interner.old (record_keys next)) }
+    requires count { IsTrue is_well → drawn.old < 2 ^ 63 }
     ensures well { IsTrue result → IsTrue is_well }
     ensures work { IsTrue result → IsWorkDone (kept_with interner.old tiles.old) (kept_with interner.new tiles.new)
         (work_at (records_of (kept_of (kept_with interner.old tiles.old))) place.now.key place.now.rect (entries_under interner.old (record_keys next))) }
+    ensures drawn { IsTrue result → drawn.new ≡ drawn.old
+        + (work_at (records_of (kept_of (kept_with interner.old tiles.old))) place.now.key place.now.rect
+        (entries_under interner.old (record_keys next))).cost }
     ensures keeps { (sides : TileSides) → place.now.rect ≡ tile_rect sides place.now.key.col place.now.key.row
         → KeepsSound sides store.now (kept_with interner.old tiles.old) (kept_with interner.new tiles.new) }
     ensures placed { (sides : TileSides) → place.now.rect ≡ tile_rect sides place.now.key.col place.now.key.row
@@ -75,11 +82,17 @@ fn show_next(
         give_up(interner, next);
         return false;
     }
-    show_tile(interner, tiles, alloc, place, next, store, scratch).is_ok()
+    match show_tile(interner, tiles, alloc, place, next, store, scratch) {
+        Ok(area) => {
+            *drawn += area;
+            true
+        }
+        Err(_) => false,
+    }
 }
 
-/// Shows the tiles of a grid of a slice's tiles, each with its record, row by row. Where memory runs out, the records that
-/// are left are given up.
+/// Shows the tiles of a grid of a slice's tiles, each with its record, row by row, and answers how many pixels were drawn.
+/// Where memory runs out, the records that are left are given up.
 fn show_records(
     interner: &mut Interner,
     tiles: &mut TileStore<TileRecord>,
@@ -89,7 +102,7 @@ fn show_records(
     records: Vec<TileRecord>,
     store: &Store,
     scratch: &mut Scratch,
-) -> Result<(), NoMemory>
+) -> Result<u64, NoMemory>
     requires closed { tiles.old.window ≡ None }
     requires count { length (keys_of_records records.items) ≡ count_of grid }
     requires entries { (i : ℕ) → i < count_of grid
@@ -101,6 +114,8 @@ fn show_records(
     requires drawable { AreDrawable store.now slice.now.entries }
     ensures work { OnOk result (IsWorkDone (kept_with interner.old tiles.old) (kept_with interner.new tiles.new)
         (work_on (kept_with interner.old tiles.old) (shown_tiles slice.now (tiles_of grid)))) }
+    ensures drawn { IfOk result (λ drawn. drawn
+        ≡ (work_on (kept_with interner.old tiles.old) (shown_tiles slice.now (tiles_of grid))).cost) }
     ensures within { IsWithin (kept_with interner.old tiles.old) (kept_with interner.new tiles.new) (shown_tiles slice.now (tiles_of grid)) }
     ensures keeps { KeepsSound grid.sides store.now (kept_with interner.old tiles.old) (kept_with interner.new tiles.new) }
     ensures placed { ArePlaced grid.sides (all_valued interner.new tiles.new.tiles) }
@@ -113,18 +128,19 @@ fn show_records(
     let _count = grid.count();
     let _before = tiles.opened();
     let mut is_well = true;
+    let mut drawn = 0;
     let mut i = 0;
     for record in records {
         let place = place_at(slice.key, grid, i);
         is_well = show_next(
-            interner, tiles, alloc, &place, record, store, scratch, is_well,
+            interner, tiles, alloc, &place, record, store, scratch, is_well, &mut drawn,
         );
         i += 1;
     }
-    if is_well { Ok(()) } else { Err(NoMemory) }
+    if is_well { Ok(drawn) } else { Err(NoMemory) }
 }
 
-/// Shows the visible tiles of a slice, row by row.
+/// Shows the visible tiles of a slice, row by row, and answers how many pixels were drawn.
 pub(crate) fn show_slice(
     interner: &mut Interner,
     tiles: &mut TileStore<TileRecord>,
@@ -133,7 +149,7 @@ pub(crate) fn show_slice(
     sides: TileSides,
     store: &Store,
     scratch: &mut Scratch,
-) -> Result<(), NoMemory>
+) -> Result<u64, NoMemory>
     requires closed { tiles.old.window ≡ None }
     requires sides { AreTileSides sides }
     requires shown { IsViewPart slice.now.shown }
@@ -145,6 +161,8 @@ pub(crate) fn show_slice(
     requires drawable { AreDrawable store.now slice.now.entries }
     ensures work { OnOk result (IsWorkDone (kept_with interner.old tiles.old) (kept_with interner.new tiles.new)
         (work_on (kept_with interner.old tiles.old) (slice_tiles sides slice.now))) }
+    ensures drawn { IfOk result (λ drawn. drawn
+        ≡ (work_on (kept_with interner.old tiles.old) (slice_tiles sides slice.now)).cost) }
     ensures within { IsWithin (kept_with interner.old tiles.old) (kept_with interner.new tiles.new) (slice_tiles sides slice.now) }
     ensures keeps { KeepsSound sides store.now (kept_with interner.old tiles.old) (kept_with interner.new tiles.new) }
     ensures placed { ArePlaced sides (all_valued interner.new tiles.new.tiles) }

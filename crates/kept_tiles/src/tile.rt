@@ -13,7 +13,7 @@ ghost use Rattle.tile_store.specs.Tiles.{HasTileSides, tile_at, without};
 ghost use Rattle.tile_store.specs.declared.tile.Tile.{Tile as TileModel};
 ghost use Rattle.tile_store.specs.declared.limits.TheConstants.{MAX_TILES};
 ghost use Rattle.kept_tiles.specs.Tiles.{all_valued, claims, entries_in, kept_of, kept_with, kept_without};
-ghost use Rattle.kept_tiles.specs.Work.{IsWorkDone, records_of, work_at};
+ghost use Rattle.kept_tiles.specs.Work.{IsWorkDone, records_of, stale_area, work_at};
 ghost use Rattle.kept_tiles.specs.Progress.{KeepsSound};
 ghost use Rattle.kept_tiles.specs.Steps.{AreDrawable, ArePlaced, IsDrawnAnew, IsPut, IsReached, IsShown};
 
@@ -133,7 +133,7 @@ fn redraw(
     give_up(interner, old);
 }
 
-/// Shows a tile that has something to show.
+/// Shows a tile that has something to show, and answers how many pixels of it were drawn.
 fn show_entries(
     interner: &mut Interner,
     tiles: &mut TileStore<TileRecord>,
@@ -142,7 +142,7 @@ fn show_entries(
     next: TileRecord,
     store: &Store,
     scratch: &mut Scratch,
-) -> Result<(), NoMemory>
+) -> Result<u64, NoMemory>
     requires closed { tiles.old.window ≡ None }
     requires room { length tiles.old.tiles < MAX_TILES }
     requires sides { HasTileSides place.now.rect }
@@ -151,6 +151,8 @@ fn show_entries(
     requires covers { Covers interner.old (record_keys next ++ claims tiles.old.tiles) }
     requires drawable { AreDrawable store.now (entries_under interner.old (record_keys next)) }
     ensures shown { OnOk result (IsShown store.now (kept_with interner.old tiles.old) (kept_with interner.new tiles.new)
+        place.now.key place.now.rect (entries_under interner.old (record_keys next))) }
+    ensures drawn { IfOk result (λ drawn. drawn ≡ stale_area (records_of (kept_of (kept_with interner.old tiles.old)))
         place.now.key place.now.rect (entries_under interner.old (record_keys next))) }
     ensures err { OnErr result (tiles.new ≡ tiles.old) }
     ensures values { OnErr result (all_valued interner.new tiles.new.tiles ≡ all_valued interner.old tiles.old.tiles) }
@@ -166,10 +168,11 @@ fn show_entries(
         }
     };
     redraw(interner, tiles, place, part, next, store, scratch);
-    Ok(())
+    Ok(part.area())
 }
 
-/// Shows a tile: one without an entry is kept no longer, another shows its entries and is the most recent.
+/// Shows a tile: one without an entry is kept no longer, another shows its entries and is the most recent. Answers how many
+/// pixels of it were drawn.
 pub(crate) fn show_tile(
     interner: &mut Interner,
     tiles: &mut TileStore<TileRecord>,
@@ -178,7 +181,7 @@ pub(crate) fn show_tile(
     next: TileRecord,
     store: &Store,
     scratch: &mut Scratch,
-) -> Result<(), NoMemory>
+) -> Result<u64, NoMemory>
     requires closed { tiles.old.window ≡ None }
     requires room { length tiles.old.tiles < MAX_TILES }
     requires sides { HasTileSides place.now.rect }
@@ -188,6 +191,9 @@ pub(crate) fn show_tile(
     requires drawable { AreDrawable store.now (entries_under interner.old (record_keys next)) }
     ensures work { OnOk result (IsWorkDone (kept_with interner.old tiles.old) (kept_with interner.new tiles.new)
         (work_at (records_of (kept_of (kept_with interner.old tiles.old))) place.now.key place.now.rect (entries_under interner.old (record_keys next)))) }
+    ensures drawn { IfOk result (λ drawn. drawn
+        ≡ (work_at (records_of (kept_of (kept_with interner.old tiles.old))) place.now.key place.now.rect
+        (entries_under interner.old (record_keys next))).cost) }
     ensures keeps { (sides : TileSides) → place.now.rect ≡ tile_rect sides place.now.key.col place.now.key.row
         → KeepsSound sides store.now (kept_with interner.old tiles.old) (kept_with interner.new tiles.new) }
     ensures placed { (sides : TileSides) → place.now.rect ≡ tile_rect sides place.now.key.col place.now.key.row
@@ -204,7 +210,7 @@ pub(crate) fn show_tile(
     let _before = tiles.opened();
     if next.ids.is_empty() {
         drop_tile(interner, tiles, place.key);
-        return Ok(());
+        return Ok(0);
     }
     show_entries(interner, tiles, alloc, place, next, store, scratch)
 }

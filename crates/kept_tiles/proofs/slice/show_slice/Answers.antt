@@ -1,14 +1,14 @@
-use Rattle.std.proofs.Common.{◌≡◌, length, ap, sym, subst, ◌∙◌, arith, refl}
+use Rattle.std.proofs.Common.{◌≡◌, ℕ, length, ap, sym, subst, ◌∙◌, arith, refl}
 use Rattle.tile_grid.specs.Grids.{in_slice, tiles_of}
 use Rattle.tile_grid.specs.declared.tile.TileSides.{TileSides}
 use Rattle.kept_tiles.specs.Tiles.{all_valued, claims, kept_of, kept_with}
 use Rattle.kept_tiles.specs.Progress.{KeepsSound}
 use Rattle.kept_tiles.specs.Steps.{ArePlaced}
-use Rattle.kept_tiles.specs.Work.{shown_tiles, slice_tiles}
+use Rattle.kept_tiles.specs.Work.{shown_tiles, slice_tiles, work_on}
 use Rattle.kept_tiles.proofs.Lists.{valued_same}
-use Rattle.kept_tiles.proofs.Progress.{started_keeps, started_within, started_work}
+use Rattle.kept_tiles.proofs.Progress.{started_cost, started_keeps, started_within, started_work}
 use Rattle.kept_tiles.proofs.Slices.{grid_sides, length_shown}
-use Rattle.kept_tiles.proofs.Working.{on_ok}
+use Rattle.kept_tiles.proofs.Working.{if_ok, on_ok}
 use Rattle.kept_tiles.proofs.slice.show_slice.Goals as goal
 
 -- once the records are made
@@ -40,6 +40,16 @@ returns-clause-work c =
     on_ok c.show_records.result c.show_records.ensures.work
     (started_work (kept_with c.args.interner.now c.args.tiles.now) (kept_with c.make_records.new.interner c.args.tiles.now) same refl (kept_with c.show_records.new.interner c.show_records.new.tiles)
     (shown_tiles c.args.slice.now (tiles_of c.visible-grid.result)) (slice_tiles c.args.sides c.args.slice.now) (ap (λ g. shown_tiles c.args.slice.now (tiles_of g)) c.visible-grid.ensures.value))
+
+pub returns-clause-drawn : goal.returns-clause-drawn
+returns-clause-drawn c =
+    let old = kept_with c.args.interner.now c.args.tiles.now in
+    let made = kept_with c.make_records.new.interner c.args.tiles.now in
+    let same = valued_same c.args.interner.now c.make_records.new.interner c.args.tiles.now.tiles (c.in_ok-records.ensures.moves.entries (claims c.args.tiles.now.tiles) c.requires.covers) in
+    if_ok (λ (n : ℕ). n ≡ (work_on made (shown_tiles c.args.slice.now (tiles_of c.visible-grid.result))).cost) (λ (n : ℕ). n ≡ (work_on old (slice_tiles c.args.sides c.args.slice.now)).cost)
+    c.show_records.result c.show_records.ensures.drawn
+    (λ n e. e ∙ started_cost old made same refl (shown_tiles c.args.slice.now (tiles_of c.visible-grid.result)) (slice_tiles c.args.sides c.args.slice.now)
+    (ap (λ g. shown_tiles c.args.slice.now (tiles_of g)) c.visible-grid.ensures.value))
 
 pub returns-clause-within : goal.returns-clause-within
 returns-clause-within c =

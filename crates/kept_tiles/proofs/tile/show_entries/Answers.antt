@@ -1,11 +1,12 @@
 use Rattle.std.proofs.Common.{◌++◌, [], ap, sym, subst, ◌∙◌, arith}
 use Rattle.tile_records.specs.Counts.{Moves}
 use Rattle.tile_records.specs.Interning.{entries_under, record_keys}
-use Rattle.kept_tiles.specs.Tiles.{all_valued, claims}
+use Rattle.kept_tiles.specs.Tiles.{all_valued, claims, kept_with}
 use Rattle.kept_tiles.proofs.Claims.{held_by, moves_beside}
 use Rattle.kept_tiles.proofs.Fitting.{note_claimed, reached_inside, reached_narrow}
 use Rattle.kept_tiles.proofs.Heading.{closed_again, headed, moved, named_before, named_behind}
 use Rattle.kept_tiles.proofs.Lists.{valued_same}
+use Rattle.kept_tiles.proofs.Working.{headed_area}
 use Rattle.kept_tiles.proofs.tile.show_entries.Goals as goal
 
 pub reach-requires-clause-old : goal.reach-requires-clause-old
@@ -50,6 +51,14 @@ returns-clause-shown c = (
   headed c.args.interner.now c.redraw.new.interner c.args.tiles.now c.reach.new.tiles c.redraw.new.tiles c.args.place.now.key c.args.place.now.rect c.in-Ok.part c.args.next c.args.store.now
       c.in-Ok.ensures.reached c.redraw.ensures.drawn c.redraw.ensures.moves c.requires.covers,
 )
+
+pub returns-clause-drawn : goal.returns-clause-drawn
+returns-clause-drawn c =
+    c.area.ensures.value
+    ∙ headed_area c.args.store.now (kept_with c.args.interner.now c.args.tiles.now) (kept_with c.redraw.new.interner c.redraw.new.tiles) c.args.place.now.key c.args.place.now.rect c.in-Ok.part
+    (entries_under c.args.interner.now (record_keys c.args.next))
+    (headed c.args.interner.now c.redraw.new.interner c.args.tiles.now c.reach.new.tiles c.redraw.new.tiles c.args.place.now.key c.args.place.now.rect c.in-Ok.part c.args.next c.args.store.now
+    c.in-Ok.ensures.reached c.redraw.ensures.drawn c.redraw.ensures.moves c.requires.covers)
 
 pub returns-clause-moves : goal.returns-clause-moves
 returns-clause-moves c =
