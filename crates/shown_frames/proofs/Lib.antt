@@ -1,0 +1,4 @@
+pub mod Painted
+pub mod Apart
+pub mod Counting
+pub mod Fitting
