@@ -90,7 +90,7 @@ impl Bench {
         if !can_all_be_shown(slices, &self.store) {
             return Ok(None);
         }
-        if !have_room(&self.kept, slices, &self.store, SIDES) {
+        if !have_room(&self.kept, slices, SIDES) {
             return Ok(None);
         }
         let drawn = self.kept.show_slices(slices, SIDES, &self.store, &mut self.scratch)?;

@@ -1,6 +1,7 @@
 //! Whether slices can be shown.
 
-ghost use Rattle.std.specs.Prelude.{◌≡◌, ◌≤◌, ◌+◌, ◌<◌, ◌^◌, IsTrue, All, length};
+ghost use Rattle.std.specs.Prelude.{◌≡◌, ◌≤◌, ◌+◌, ◌<◌, ◌^◌, Some, IsTrue, IfSome, All, length, option_map};
+ghost use Rattle.image_store.specs.StoreModel.{image_at};
 ghost use Rattle.primitives.specs.Facts.{IsEntry};
 ghost use Rattle.primitives.specs.Stacks.{balanced, is_shallow};
 ghost use Rattle.tile_grid.specs.Grids.{IsViewPart, IsWithinReach};
@@ -49,7 +50,9 @@ pub fn is_within_reach(origin: Point) -> bool
 }
 
 /// Whether a store has an image of this generation at a key.
-fn is_stored(store: &Store, pipeline: u8, key: u32, generation: u64) -> bool {
+fn is_stored(store: &Store, pipeline: u8, key: u32, generation: u64) -> bool
+    ensures { IsTrue result → option_map (λ i. i.generation) (image_at store.now pipeline key) ≡ Some generation }
+{
     match store.image(pipeline, key) {
         Some(image) => image.generation() == generation,
         None => false,
@@ -146,25 +149,27 @@ pub fn can_all_be_shown(slices: &[Slice], store: &Store) -> bool
     true
 }
 
-/// How many visible tiles a slice has.
-fn count_tiles(slice: &Slice, sides: TileSides) -> usize
+/// How many visible tiles a slice has; None where it can't be shown.
+fn count_tiles(slice: &Slice, sides: TileSides) -> Option<usize>
     requires sides { AreTileSides sides }
-    requires shown { IsViewPart slice.now.shown }
-    requires origin { IsWithinReach slice.now.origin }
-    ensures { result ≡ length (slice_tiles sides slice.now) }
+    ensures { IfSome result (λ count. count ≡ length (slice_tiles sides slice.now)) }
 {
-    TileGrid::visible(sides, slice.shown, slice.origin).count()
+    if !is_view_part(slice.shown) || !is_within_reach(slice.origin) {
+        return None;
+    }
+    Some(TileGrid::visible(sides, slice.shown, slice.origin).count())
 }
 
 /// Whether the visible tiles of slices can be kept beside those that are.
-pub fn have_room(kept: &KeptTiles, slices: &[Slice], store: &Store, sides: TileSides) -> bool
+pub fn have_room(kept: &KeptTiles, slices: &[Slice], sides: TileSides) -> bool
     requires sides { AreTileSides sides }
-    requires slices { All (CanBeShown store.now) slices.now }
     ensures { IsTrue result → length kept.now.store.tiles + length (frame_tiles sides slices.now) ≤ MAX_TILES }
 {
     let mut count = kept.tiles().len() as usize;
     for slice in slices {
-        let more = count_tiles(slice, sides);
+        let Some(more) = count_tiles(slice, sides) else {
+            return false;
+        };
         if more > 10_000 || count > 100_000 {
             return false;
         }
