@@ -1,5 +1,5 @@
 -- Lists that are short, or cut.
-use Rattle.std.proofs.Common.{◌≡◌, ◌<◌, ◌≤◌, ◌+◌, ℕ, zero, suc, true, false, List, [], ◌∷◌, length, take, IfSome, IsTrue, refl, arith}
+use Rattle.std.proofs.Common.{◌≡◌, ◌≤◌, ℕ, zero, suc, true, false, List, [], ◌∷◌, length, take, IfSome, IsTrue, refl, arith}
 use Rattle.wr_geom.specs.declared.keys.TileKey.{TileKey}
 use Rattle.primitives.specs.Stacks.{is_shallow}
 use Rattle.primitives.specs.declared.entry.Entry.{Entry}

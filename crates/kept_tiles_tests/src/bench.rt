@@ -93,7 +93,9 @@ impl Bench {
         if !have_room(&self.kept, slices, SIDES) {
             return Ok(None);
         }
-        let drawn = self.kept.show_slices(slices, SIDES, &self.store, &mut self.scratch)?;
+        let drawn = self
+            .kept
+            .show_slices(slices, SIDES, &self.store, &mut self.scratch)?;
         Ok(Some(drawn))
     }
 

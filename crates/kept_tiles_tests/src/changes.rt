@@ -84,3 +84,22 @@ fn stay_right(bench: &mut Bench) -> Result<bool, NoMemory> {
 fn kept_tiles_have_the_pixels_of_a_fresh_drawing(rt: HostRuntime) {
     assert!(rt; on_a_bench(rt.alloc(), stay_right) == Ok(true));
 }
+
+/// Whether a frame is right that is shown again where memory runs out at first.
+fn show_after_all(bench: &mut Bench) -> Result<bool, NoMemory> {
+    let mut rolls = Rolls::new(3);
+    let slices = [
+        planned(bench.alloc(), &rolled_plan(&mut rolls), 0, None)?,
+        planned(bench.alloc(), &rolled_plan(&mut rolls), 1, None)?,
+    ];
+    if bench.show(&slices).is_err() {
+        bench.show(&slices)?;
+    }
+    are_right(bench, &slices)
+}
+
+#[test]
+fn a_frame_is_shown_again_after_memory_ran_out(rt: HostRuntime) {
+    let shown = on_a_bench(rt.alloc(), show_after_all);
+    assert!(rt; shown == Ok(true) || shown == Err(NoMemory));
+}

@@ -51,9 +51,11 @@ fn draws_where_it_moved(bench: &mut Bench) -> Result<bool, NoMemory> {
     let first = drawn_at(bench, &[10])?;
     let moved = drawn_at(bench, &[15])?;
     let over_the_edge = drawn_at(bench, &[50])?;
-    Ok(first == Some(TILE)
-        && moved == Some(25 * 10)
-        && over_the_edge == Some((64 - 15) * 10 + TILE))
+    Ok(
+        first == Some(TILE)
+            && moved == Some(25 * 10)
+            && over_the_edge == Some((64 - 15) * 10 + TILE),
+    )
 }
 
 #[test]
@@ -74,7 +76,9 @@ fn key(col: i32) -> TileKey {
 fn are_kept(bench: &Bench, first: bool, second: bool) -> bool {
     let tiles = bench.kept().tiles();
     let count = u32::from(first) + u32::from(second);
-    tiles.tile(key(0)).is_some() == first && tiles.tile(key(1)).is_some() == second && tiles.len() == count
+    tiles.tile(key(0)).is_some() == first
+        && tiles.tile(key(1)).is_some() == second
+        && tiles.len() == count
 }
 
 /// Whether tiles with nothing to show are given up, one and then all.
