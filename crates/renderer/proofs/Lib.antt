@@ -1,0 +1,9 @@
+pub mod Operations
+pub mod Trimming
+pub mod Keys
+pub mod Readying
+pub mod DrawnTiles
+pub mod Finishing
+pub mod Applying
+pub mod Beginning
+pub mod Views
