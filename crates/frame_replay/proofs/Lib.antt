@@ -1,5 +1,7 @@
 pub mod Statuses
 pub mod Replays
+pub mod Beginnings
+pub mod Rendering
 pub mod Marks
 pub mod Pixels
 pub mod Weaves

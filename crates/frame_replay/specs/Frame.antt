@@ -24,8 +24,10 @@ row_by_row width height f = flat_map (λ y. map (λ x. f x y) (range_with_len 0 
 abbrev pub view_pixels : SceneModel → List Px
 view_pixels s = row_by_row s.view.0 s.view.1 (pixel_at s)
 
--- the view's sides, the pipelines that are drawn, and the pixels
-unfoldable pub frame_record : SceneModel → List ℕ
-frame_record s =
-    70 ∷ (u16_bytes s.view.0 ++ (u16_bytes s.view.1 ++ (drawn_bytes (drawn_pipelines s)
-    ++ flat_map colour_bytes (view_pixels s))))
+-- the view's sides, and the pipelines that are drawn
+unfoldable pub frame_head : SceneModel → List ℕ
+frame_head s = 70 ∷ (u16_bytes s.view.0 ++ (u16_bytes s.view.1 ++ drawn_bytes (drawn_pipelines s)))
+
+-- these, and the pixels
+abbrev pub frame_record : SceneModel → List ℕ
+frame_record s = frame_head s ++ flat_map colour_bytes (view_pixels s)

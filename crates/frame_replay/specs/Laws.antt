@@ -1,5 +1,5 @@
 -- Laws of what commands write.
-use Rattle.std.specs.Prelude.{◌≡◌, ◌↔◌, ℕ, ◌+◌, List, [], ◌∷◌, ◌++◌, false, IsTrue, None, Ok, Err}
+use Rattle.std.specs.Prelude.{◌≡◌, ◌↔◌, ℕ, ◌+◌, List, [], ◌∷◌, ◌++◌, Bool, false, IsTrue, None, Ok, Err}
 use Rattle.wr_io.specs.declared.fault.Code.{Code}
 use Rattle.display_list.specs.Grammar.{IsFirstFault}
 use Rattle.txn_format.specs.Txn.{PlacedModel, TxnModel, set_list}
@@ -8,16 +8,22 @@ use Rattle.scene_limits.specs.Drawn.{IsDrawn}
 use Rattle.scene_state.specs.SceneModel.{SceneModel}
 use Rattle.scene_state.specs.Limits.{IsScene, next_scene}
 use Rattle.scene_state.specs.Operations.{after_ops}
+use Rattle.renderer.specs.Drops.{tiles_left}
 use Rattle.frame_replay.specs.Drawn.{is_pipeline_drawn}
 use Rattle.frame_replay.specs.Answer.{ReplayState, refusal_record, record_of, next_state, replayed}
+use Rattle.frame_replay.specs.Painting.{painted}
 
 -- `replay` refuses no transaction with a status of its own, whatever the transactions are.
 abbrev pub ReplayRefusesNone : Type 0
-ReplayRefusesNone = (payloads : List (List ℕ)) → replayed.refusal payloads ≡ None
+ReplayRefusesNone = (stats : Bool) (payloads : List (List ℕ)) → (replayed stats).refusal payloads ≡ None
+
+-- `paint` writes what `replay` writes, byte for byte.
+abbrev pub PaintIsReplay : Type 0
+PaintIsReplay = painted ≡ replayed false
 
 -- a payload is answered by a refusal, and leaves the state
 pub record IsRefusedWith (payload : List ℕ) (state : ReplayState) (c : Code) (p : ℕ) : Type 0 where
-  pub refusal : record_of payload state ≡ refusal_record c p
+  pub refusal : (stats : Bool) → record_of stats payload state ≡ refusal_record c p
   pub stays : next_state payload state ≡ state
 
 -- A payload that spells no transaction is refused with its first fault.
@@ -27,7 +33,7 @@ FirstFaultIsAnswered = (payload : List ℕ) (state : ReplayState) (c : Code) (p 
 -- A transaction without a next scene is refused with the fault that is there in its place.
 abbrev pub SceneFaultIsAnswered : Type 0
 SceneFaultIsAnswered =
-    (payload : List ℕ) (txn : TxnModel) (state : ReplayState) (c : Code) (p : ℕ) → TxnSpells txn payload → next_scene txn state.0 state.1 ≡ Err (record { code = c; at = p })
+    (payload : List ℕ) (txn : TxnModel) (state : ReplayState) (c : Code) (p : ℕ) → TxnSpells txn payload → next_scene txn state.scene state.last ≡ Err (record { code = c; at = p })
     → IsRefusedWith payload state c p
 
 -- The payload spells a transaction, the operation at a position sets a list with a fault, and those before it are applied.
@@ -39,8 +45,8 @@ pub record SendsFaultyList (payload : List ℕ) (state : ReplayState) (at : ℕ)
   pub epoch : ℕ
   pub bytes : List ℕ
   pub ops_are : txn.ops ≡ before ++ record { at = at; op = set_list epoch bytes } ∷ after
-  pub made : ReplayState
-  pub applied : after_ops txn.pipeline before state.0 state.1 ≡ Ok made
+  pub made : SceneModel × ℕ
+  pub applied : after_ops txn.pipeline before state.scene state.last ≡ Ok made
   pub faulty : IsFirstFault txn.pipeline bytes c p
 
 -- It is refused with the list's first fault, whose position is counted from the payload's first byte: the list begins nine bytes after the operation's tag.
@@ -49,13 +55,18 @@ ListFaultIsAnswered = (payload : List ℕ) (state : ReplayState) (at : ℕ) (c :
 
 -- a payload is answered by A alone, and makes the next state
 pub record IsAccepted (payload : List ℕ) (state after : ReplayState) : Type 0 where
-  pub answer : record_of payload state ≡ 65 ∷ []
+  pub answer : (stats : Bool) → record_of stats payload state ≡ 65 ∷ []
   pub made : next_state payload state ≡ after
+
+-- the state after a transaction without a frame: of the kept tiles stays what the transaction leaves
+abbrev pub state_without_frame : TxnModel → ReplayState → SceneModel × ℕ → ReplayState
+state_without_frame txn state made = record { scene = made.0; last = made.1; kept = tiles_left txn state.scene.policy state.kept }
 
 -- So is a transaction that has a next scene and asks for no frame.
 abbrev pub AcceptedIsAnswered : Type 0
 AcceptedIsAnswered =
-    (payload : List ℕ) (txn : TxnModel) (state after : ReplayState) → TxnSpells txn payload → txn.frame ≡ false → next_scene txn state.0 state.1 ≡ Ok after → IsAccepted payload state after
+    (payload : List ℕ) (txn : TxnModel) (state : ReplayState) (made : SceneModel × ℕ) → TxnSpells txn payload → txn.frame ≡ false → next_scene txn state.scene state.last ≡ Ok made
+    → IsAccepted payload state (state_without_frame txn state made)
 
 -- The pipelines that are listed are the root where it has a list, and those that have a list and that an Iframe of one that is drawn names.
 abbrev pub DrawnAreDrawn : Type 0

@@ -1,6 +1,8 @@
 pub mod Drawn
 pub mod Frame
 pub mod Answer
+pub mod Painting
+pub mod Replaying
 pub mod Outcome
 pub mod Load
 pub mod Commands

@@ -42,30 +42,37 @@ frame_sum s = sum (flat_map colour_bytes (view_pixels s))
 -- the sum of the bytes of an answer's pixels
 abbrev pub pixel_sum : TxnAnswer → ℕ
 pixel_sum (Err fault) = 0
-pixel_sum (Ok made) = if made.frame then frame_sum made.state.0 else 0
+pixel_sum (Ok made) = if made.frame then frame_sum made.state.scene else 0
 
--- how many answers are frames, how many are refusals, and the sum of the bytes of all pixels
+-- the pixels of tiles that an answer's frame costs
+abbrev pub drawn_sum : TxnAnswer → ℕ
+drawn_sum (Err fault) = 0
+drawn_sum (Ok made) = if made.frame then made.drawn else 0
+
+-- how many answers are frames, how many are refusals, the sum of the bytes of all pixels, and that of what frames cost
 abbrev pub counts_of : List TxnAnswer → Counts
 counts_of answers = record {
   frames = length (filter is_frame answers);
   refused = length (filter is_refusal answers);
   pixels = sum_by pixel_sum answers;
+  drawn = sum_by drawn_sum answers;
 }
 
--- counts with the frame of a scene
-abbrev pub with_frame_of : SceneModel → Counts → Counts
-with_frame_of s c = record { frames = c.frames + 1; refused = c.refused; pixels = c.pixels + frame_sum s }
+-- counts with the frame of a scene, which cost so many pixels of tiles
+abbrev pub with_frame : ℕ → SceneModel → Counts → Counts
+with_frame drawn s c = record { frames = c.frames + 1; refused = c.refused; pixels = c.pixels + frame_sum s; drawn = c.drawn + drawn }
 
 -- counts with one answer more
 abbrev pub with_answer : TxnAnswer → Counts → Counts
-with_answer (Err fault) c = record { frames = c.frames; refused = c.refused + 1; pixels = c.pixels }
-with_answer (Ok made) c = if made.frame then with_frame_of made.state.0 c else c
+with_answer (Err fault) c = record { frames = c.frames; refused = c.refused + 1; pixels = c.pixels; drawn = c.drawn }
+with_answer (Ok made) c = if made.frame then with_frame made.drawn made.state.scene c else c
 
 -- one answer more can be counted
 pub record HasRoom (c : Counts) : Type 0 where
   pub frames : c.frames < 2 ^ 32
   pub refused : c.refused < 2 ^ 32
   pub pixels : c.pixels < 2 ^ 52
+  pub drawn : c.drawn < 2 ^ 54
 
 -- a word, a space, a decimal number and a newline
 abbrev pub line : List ℕ → ℕ → List ℕ
@@ -74,7 +81,7 @@ line word n = word ++ (32 ∷ (decimal n ++ 10 ∷ []))
 abbrev pub summary_lines : ℕ → Counts → List ℕ
 summary_lines count counts =
     line (codes "transactions") count ++ (line (codes "frames") counts.frames
-    ++ (line (codes "refused") counts.refused ++ line (codes "sum") counts.pixels))
+    ++ (line (codes "refused") counts.refused ++ (line (codes "sum") counts.pixels ++ line (codes "drawn") counts.drawn)))
 
 -- what `load` writes of the file that a number makes
 unfoldable pub summary : ℕ → ℕ → List ℕ

@@ -1,11 +1,16 @@
 //! Laws of what commands write. The functions do nothing: their contracts state the laws.
 
 ghost use Rattle.frame_replay.specs.Laws.{AcceptedIsAnswered, DrawnAreDrawn, FirstFaultIsAnswered};
-ghost use Rattle.frame_replay.specs.Laws.{ListFaultIsAnswered, ReplayRefusesNone, SceneFaultIsAnswered};
+ghost use Rattle.frame_replay.specs.Laws.{ListFaultIsAnswered, PaintIsReplay, ReplayRefusesNone, SceneFaultIsAnswered};
 
 /// `replay` never ends with an entry that it refuses.
 pub fn replay_laws()
     ensures { ReplayRefusesNone }
+{}
+
+/// `paint` writes what `replay` writes, byte for byte.
+pub fn paint_laws()
+    ensures { PaintIsReplay }
 {}
 
 /// A payload that spells no transaction is answered by its first fault, and a transaction that is refused by the

@@ -1,21 +1,20 @@
 //! Files of transactions replayed into frames.
 #![tactic(auto)]
 
-mod answer;
-mod drawing;
 mod drawn;
 mod frame;
 mod laws;
 mod load;
-mod painted;
-mod pixel_source;
+mod painting;
 mod program;
-mod replay;
+mod records;
+mod replaying;
+mod rows;
 mod status;
 mod words;
 
 pub use file_generator::generate;
-pub use laws::{drawn_laws, refusal_laws, replay_laws};
+pub use laws::{drawn_laws, paint_laws, refusal_laws, replay_laws};
 pub use program::run;
 pub use words::Command;
 pub use wr_io::{StdSink, StdSource};

@@ -4,17 +4,21 @@ ghost use Rattle.std.specs.Prelude.{◌≡◌, ◌≢◌, ◌≤◌, ◌<◌, �
 ghost use Rattle.std.specs.List.{flat_map};
 ghost use Rattle.blend_rules.specs.Colour.{colour_bytes};
 ghost use Rattle.wr_io.specs.Streams.{HasFailed};
+ghost use Rattle.renderer.specs.Frames.{ShowScene};
 ghost use Rattle.file_generator.specs.Files.{file};
-ghost use Rattle.frame_replay.specs.Answer.{accepted, next_state, start_state};
+ghost use Rattle.scene_state.specs.SceneModel.{SceneModel};
+ghost use Rattle.scene_state.specs.Limits.{IsScene};
+ghost use Rattle.frame_replay.specs.Answer.{accepted, next_state, start_state, state_of};
 ghost use Rattle.frame_replay.specs.Frame.{view_pixels};
-ghost use Rattle.frame_replay.specs.Load.{HasRoom, Summarises, answers_to, counts_of, line, summary, summary_lines, with_answer, with_frame_of};
+ghost use Rattle.frame_replay.specs.Load.{HasRoom, Summarises, answers_to, counts_of, line, summary, summary_lines, with_answer, with_frame};
+ghost use Rattle.frame_replay.specs.Replaying.{HasFrame};
 
-use crate::answer::apply;
-use crate::drawing::Drawing;
-use crate::pixel_source::PixelSource;
+use crate::replaying::apply;
+use crate::rows::put_rows;
 use file_generator::{Generator, MAX_TRANSACTIONS};
-use image_store::Gens;
-use scene_state::{ApplyError, Scene, know_scene};
+use renderer::{Answer, Renderer, Report};
+use scene_state::{ApplyError, know_scene};
+use span_kernels::Planes;
 use std::alloc::{AllocError, Global};
 use wr_io::{Sink, write_whole};
 
@@ -25,16 +29,16 @@ struct Counts {
     refused: u64,
     /// The sum of the bytes of all pixels.
     pixels: u64,
+    /// The sum of the pixels of tiles that frames cost.
+    drawn: u64,
 }
 
-/// The scene, what is counted so far, and what frames are drawn with: memory for the pixels of one.
+/// What makes the frames, what is counted so far, and memory for the bytes of a frame's pixels.
 #[derive(Drop)]
 struct Loading {
-    scene: Scene,
-    gens: Gens,
+    renderer: Renderer,
     counts: Counts,
-    drawing: Drawing,
-    pixels: Vec<u8>,
+    bytes: Vec<u8>,
 }
 
 /// The sum of bytes.
@@ -50,52 +54,54 @@ fn byte_sum(bytes: &[u8]) -> u64
     total
 }
 
-/// The sum of the bytes of a frame's pixels. `pixels` takes them first.
-fn frame_sum(
-    alloc: Global,
-    scene: &Scene,
-    drawing: &mut Drawing,
-    pixels: &mut Vec<u8>,
-) -> Result<u64, AllocError>
-    ensures value { IfOk result (λ total. total ≡ sum (flat_map colour_bytes (view_pixels scene.now))) }
+/// The sum of the bytes of a renderer's last frame. `bytes` takes them first.
+fn frame_sum(renderer: &Renderer, bytes: &mut Vec<u8>) -> Result<u64, AllocError>
+    requires { HasFrame renderer.now }
+    ensures value { IfOk result (λ total. total ≡ sum (flat_map colour_bytes (view_pixels renderer.now.scene))) }
     ensures most { IfOk result (λ total. total ≤ 2 ^ 34) }
 {
-    know_scene(scene);
-    pixels.clear();
-    drawing.put_pixels(alloc, scene, pixels)?;
-    Ok(byte_sum(pixels.as_slice()))
+    know_scene(renderer.scene());
+    let frame = renderer.last_frame().unwrap();
+    bytes.clear();
+    put_rows(bytes, frame.planes())?;
+    Ok(byte_sum(bytes.as_slice()))
 }
 
 impl Loading {
     /// Before the first transaction.
-    fn new(alloc: Global) -> Loading
-        ensures state { (result.scene, result.gens) ≡ start_state }
-        ensures counts { result.counts ≡ counts_of [] }
+    fn new(alloc: Global) -> Result<Loading, AllocError>
+        ensures state { IfOk result (λ loading. state_of loading.renderer ≡ start_state) }
+        ensures counts { IfOk result (λ loading. loading.counts ≡ counts_of []) }
     {
-        Loading {
-            scene: Scene::start(alloc),
-            gens: Gens::new(),
+        let Ok(renderer) = Renderer::new(alloc) else {
+            return Err(AllocError);
+        };
+        Ok(Loading {
+            renderer,
             counts: Counts {
                 frames: 0,
                 refused: 0,
                 pixels: 0,
+                drawn: 0,
             },
-            drawing: Drawing::new(),
-            pixels: Vec::new(alloc),
-        }
+            bytes: Vec::new(alloc),
+        })
     }
 
-    /// Counts a frame of the scene.
-    fn count_frame(&mut self, alloc: Global) -> Result<(), AllocError>
-        requires { HasRoom self.old.counts }
-        ensures counts { OnOk result (self.new.counts ≡ with_frame_of self.old.scene self.old.counts) }
-        ensures scene { self.new.scene ≡ self.old.scene }
-        ensures gens { self.new.gens ≡ self.old.gens }
-        ensures most { OnOk result (self.new.counts.pixels ≤ self.old.counts.pixels + 2 ^ 34) }
+    /// Counts the last frame, which took this.
+    fn count_frame(&mut self, report: Report) -> Result<(), AllocError>
+        requires frame { HasFrame self.old.renderer }
+        requires room { HasRoom self.old.counts }
+        requires drawn { report.drawn ≤ 2 ^ 36 }
+        ensures counts { OnOk result (self.new.counts ≡ with_frame report.drawn self.old.renderer.scene self.old.counts) }
+        ensures renderer { self.new.renderer ≡ self.old.renderer }
+        ensures pixels { OnOk result (self.new.counts.pixels ≤ self.old.counts.pixels + 2 ^ 34) }
+        ensures drawn { OnOk result (self.new.counts.drawn ≤ self.old.counts.drawn + 2 ^ 36) }
     {
-        let total = frame_sum(alloc, &self.scene, &mut self.drawing, &mut self.pixels)?;
+        let total = frame_sum(&self.renderer, &mut self.bytes)?;
         self.counts.frames += 1;
         self.counts.pixels += total;
+        self.counts.drawn += report.drawn;
         Ok(())
     }
 
@@ -103,18 +109,14 @@ impl Loading {
     fn answer(&mut self, alloc: Global, payload: &[u8]) -> Result<(), AllocError>
         requires payload { length payload.now ≤ 2 ^ 26 }
         requires room { HasRoom self.old.counts }
-        ensures state { OnOk result ((self.new.scene, self.new.gens) ≡ next_state payload.now (self.old.scene, self.old.gens)) }
-        ensures counts { OnOk result (self.new.counts ≡ with_answer (accepted payload.now (self.old.scene, self.old.gens)) self.old.counts) }
-        ensures most { OnOk result (self.new.counts.pixels ≤ self.old.counts.pixels + 2 ^ 34) }
+        ensures state { OnOk result (state_of self.new.renderer ≡ next_state payload.now (state_of self.old.renderer)) }
+        ensures counts { OnOk result (self.new.counts ≡ with_answer (accepted payload.now (state_of self.old.renderer)) self.old.counts) }
+        ensures pixels { OnOk result (self.new.counts.pixels ≤ self.old.counts.pixels + 2 ^ 34) }
+        ensures drawn { OnOk result (self.new.counts.drawn ≤ self.old.counts.drawn + 2 ^ 36) }
     {
-        match apply(alloc, payload, &self.scene, &mut self.gens) {
-            Ok((next, frame)) => {
-                self.scene = next;
-                if frame {
-                    return self.count_frame(alloc);
-                }
-                Ok(())
-            }
+        match apply(alloc, payload, &mut self.renderer) {
+            Ok(Answer::Accepted) => Ok(()),
+            Ok(Answer::Framed(report)) => self.count_frame(report),
             Err(ApplyError::Fault(_)) => {
                 self.counts.refused += 1;
                 Ok(())
@@ -130,7 +132,7 @@ fn counted(alloc: Global, number: u64, count: u32) -> Result<Counts, AllocError>
     ensures { IfOk result (λ counts. counts ≡ counts_of (answers_to (file number count))) }
 {
     let mut generator = Generator::new(alloc, number);
-    let mut loading = Loading::new(alloc);
+    let mut loading = Loading::new(alloc)?;
     let mut payload = Vec::new(alloc);
     for _ in 0..count {
         generator.put_next(&mut payload)?;
@@ -156,6 +158,7 @@ fn summary_text(alloc: Global, count: u32, counts: Counts) -> Result<Vec<u8>, Al
     put_line(alloc, &mut out, "frames", counts.frames)?;
     put_line(alloc, &mut out, "refused", counts.refused)?;
     put_line(alloc, &mut out, "sum", counts.pixels)?;
+    put_line(alloc, &mut out, "drawn", counts.drawn)?;
     Ok(out)
 }
 

@@ -5,43 +5,60 @@ ghost use Rattle.wr_io.specs.Streams.{HasFailed};
 ghost use Rattle.record_frame.specs.Reading.{Took};
 ghost use Rattle.record_frame.specs.Writing.{IsPrefix, Wrote};
 ghost use Rattle.frame_replay.specs.Answer.{replayed};
+ghost use Rattle.frame_replay.specs.Painting.{painted};
 ghost use Rattle.frame_replay.specs.Outcome.{Completes, Outcome, note_of};
 ghost use Rattle.frame_replay.specs.Commands.{IfLoad, IsCommand, command_named, completes, leaves};
 ghost use Rattle.frame_replay.specs.Load.{Summarises};
 
-use crate::drawing::Drawing;
 use crate::load::load;
-use crate::painted::Painted;
-use crate::pixel_source::PixelSource;
-use crate::replay::Replay;
+use crate::painting::Painting;
+use crate::replaying::Replay;
 use crate::status::answer_status;
 use crate::words::{Command, find_command};
 use record_frame::Transactions;
+use renderer::Renderer;
 use std::alloc::Global;
 use wr_io::{Sink, Source, write_whole};
 
 /// The exit status of words that name no command.
 const USAGE: u8 = 1;
 
-/// Answers a file of transactions by frames whose pixels are made in a given way, and gives the exit status: 0, or 2
-/// to 5.
-fn replay<P: PixelSource, S: Source, K: Sink>(
-    alloc: Global,
-    pixels: P,
-    source: &mut S,
-    sink: &mut K,
-) -> u8
+/// The exit status of a run for which memory ran out at its start.
+const OUT_OF_MEMORY: u8 = 5;
+
+/// Answers a file of transactions by a renderer's frames, with or without what they took, and gives the exit status: 0,
+/// or 2 to 5.
+fn replay<S: Source, K: Sink>(alloc: Global, stats: bool, source: &mut S, sink: &mut K) -> u8
     ensures range { (result ≢ 1) × (result ≤ 5) }
-    ensures told { IfSome (S.left source.old) (λ input. Took input (S.left source.new) (Outcome replayed result (K.written sink.old) (K.written sink.new))) }
+    ensures told { IfSome (S.left source.old) (λ input. Took input (S.left source.new) (Outcome (replayed stats) result (K.written sink.old) (K.written sink.new))) }
     ensures source_never_falls { S.faults source.old ≤ S.faults source.new }
     ensures sink_never_falls { K.faults sink.old ≤ K.faults sink.new }
     ensures read_failed { result ≡ 3 → HasFailed (S.faults source.old) (S.faults source.new) }
     ensures write_failed { result ≡ 4 → HasFailed (K.faults sink.old) (K.faults sink.new) }
     ensures source_count { result ≢ 3 → S.faults source.new ≡ S.faults source.old }
     ensures sink_count { result ≢ 4 → K.faults sink.new ≡ K.faults sink.old }
-    ensures complete { result ≢ 3 → result ≢ 4 → IfSome (S.left source.old) (Completes replayed result) }
+    ensures complete { result ≢ 3 → result ≢ 4 → IfSome (S.left source.old) (Completes (replayed stats) result) }
 {
-    let by = Replay::new(alloc, pixels);
+    let Ok(renderer) = Renderer::new(alloc) else {
+        return OUT_OF_MEMORY;
+    };
+    let by = Replay { renderer, stats };
+    answer_status(alloc, b"WRF1", Transactions { by }, source, sink)
+}
+
+/// Answers a file of transactions by frames that are painted pixel by pixel, and gives the exit status: 0, or 2 to 5.
+fn paint<S: Source, K: Sink>(alloc: Global, source: &mut S, sink: &mut K) -> u8
+    ensures range { (result ≢ 1) × (result ≤ 5) }
+    ensures told { IfSome (S.left source.old) (λ input. Took input (S.left source.new) (Outcome painted result (K.written sink.old) (K.written sink.new))) }
+    ensures source_never_falls { S.faults source.old ≤ S.faults source.new }
+    ensures sink_never_falls { K.faults sink.old ≤ K.faults sink.new }
+    ensures read_failed { result ≡ 3 → HasFailed (S.faults source.old) (S.faults source.new) }
+    ensures write_failed { result ≡ 4 → HasFailed (K.faults sink.old) (K.faults sink.new) }
+    ensures source_count { result ≢ 3 → S.faults source.new ≡ S.faults source.old }
+    ensures sink_count { result ≢ 4 → K.faults sink.new ≡ K.faults sink.old }
+    ensures complete { result ≢ 3 → result ≢ 4 → IfSome (S.left source.old) (Completes painted result) }
+{
+    let by = Painting::new(alloc);
     answer_status(alloc, b"WRF1", Transactions { by }, source, sink)
 }
 
@@ -61,8 +78,8 @@ fn perform<S: Source, K: Sink>(alloc: Global, command: Command, source: &mut S, 
     ensures complete { result ≢ 3 → result ≢ 4 → IfSome (S.left source.old) (completes command result) }
 {
     match command {
-        Command::Replay => replay(alloc, Drawing::new(), source, sink),
-        Command::Paint => replay(alloc, Painted, source, sink),
+        Command::Replay { stats } => replay(alloc, stats, source, sink),
+        Command::Paint => paint(alloc, source, sink),
         Command::Load { number, count } => load(alloc, number, count, sink),
     }
 }

@@ -9,9 +9,9 @@ use file_generator::MAX_TRANSACTIONS;
 /// What the words of a run ask for.
 #[derive(Clone, Copy, Debug, PartialEq, Eq)]
 pub enum Command {
-    /// A record for each transaction of an input, a frame's pixels among them.
-    Replay,
-    /// The same, always by the plain painter.
+    /// A record for each transaction of an input, a frame's pixels among them; with `stats`, after each frame what it took.
+    Replay { stats: bool },
+    /// The same without `stats`, always by the plain painter.
     Paint,
     /// A summary of the answers to so many transactions, 1 to 100,000, that a number makes.
     Load { number: u64, count: u32 },
@@ -63,10 +63,20 @@ fn command_word(word: &str) -> Option<Command>
     ensures { result ≡ command_in (word.now ∷ []) }
 {
     match word {
-        "replay" => Some(Command::Replay),
+        "replay" => Some(Command::Replay { stats: false }),
         "paint" => Some(Command::Paint),
         _ => None,
     }
+}
+
+/// The command of two words.
+fn command_of_two(word: &str, flag: &str) -> Option<Command>
+    ensures { result ≡ command_in (word.now ∷ (flag.now ∷ [])) }
+{
+    if word == "replay" && flag == "--stats" {
+        return Some(Command::Replay { stats: true });
+    }
+    None
 }
 
 /// The command of three words.
@@ -85,6 +95,7 @@ pub(crate) fn find_command(words: &[String]) -> Option<Command>
 {
     match words {
         [word] => command_word(word.as_str()),
+        [word, flag] => command_of_two(word.as_str(), flag.as_str()),
         [word, number, count] => {
             command_of_three(word.as_str(), number.as_str(), count.as_str())
         }

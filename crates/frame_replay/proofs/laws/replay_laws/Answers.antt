@@ -3,4 +3,4 @@ use Rattle.frame_replay.proofs.Replays.{none_refused}
 use Rattle.frame_replay.proofs.laws.replay_laws.Goals as goal
 
 pub returns : goal.returns
-returns c payloads = none_refused payloads start_state
+returns c stats payloads = none_refused stats payloads start_state

@@ -1,15 +1,36 @@
-use Rattle.std.proofs.Common.{◌≡◌, ℕ, List, ◌+◌, ◌-◌, ap, ◌∙◌, arith}
+use Rattle.std.proofs.Common.{◌≡◌, ℕ, List, [], ◌+◌, ◌-◌, ap, ◌∙◌, arith}
 use Rattle.file_generator.specs.Files.{Generating, payloads}
-use Rattle.frame_replay.specs.Answer.{ReplayState, accepted, next_state, start_state}
+use Rattle.frame_replay.specs.Answer.{ReplayState, accepted, next_state, start_state, state_of}
 use Rattle.frame_replay.specs.Load.{answers_from, counts_of, with_answer}
 use Rattle.frame_replay.specs.declared.load.Counts.{Counts}
-use Rattle.frame_replay.proofs.Counting.{counted_more, counted_none, file_answers, frames_grow, refused_grow}
+use Rattle.frame_replay.proofs.Counting.{answers_left, counted_all, counted_more, counted_none, counts_with, file_answers, frames_grow, refused_grow}
 use Rattle.frame_replay.proofs.load.counted.Goals as goal
+
+pub loop-init : goal.loop-init
+loop-init c =
+    let g = c.new-generator.result in
+    let loading = c.in_ok-loading.loading in
+    let counts = c.in_ok-loading.ensures.counts in
+    let whole : c.args.count - 0 ≡ c.args.count = omega arith in
+    record {
+      all =
+          ap (λ (n : ℕ). counts_with loading.counts (answers_left g n (state_of loading.renderer))) whole
+          ∙ ap (λ (x : Counts). counts_with x (answers_left g c.args.count (state_of loading.renderer))) counts
+          ∙ ap (λ (h : Generating). counts_with (counts_of []) (answers_left h c.args.count (state_of loading.renderer))) c.new-generator.ensures
+          ∙ ap (λ (s : ReplayState). counts_with (counts_of []) (answers_left (record { next = 0; state = c.args.number }) c.args.count s)) c.in_ok-loading.ensures.state
+          ∙ counted_all c.args.number c.args.count;
+      next = ap (λ (h : Generating). h.next) c.new-generator.ensures;
+      last = omega arith;
+      frames = omega (arith, ap (λ (x : Counts). x.frames) counts);
+      refused = omega (arith, ap (λ (x : Counts). x.refused) counts);
+      pixels = omega (arith, ap (λ (x : Counts). x.pixels) counts);
+      drawn = omega (arith, ap (λ (x : Counts). x.drawn) counts);
+    }
 
 pub loop-preserved : goal.loop-preserved
 loop-preserved c =
-    let before : ReplayState = (c.loop.loading.scene, c.loop.loading.gens) in
-    let after : ReplayState = (c.answer.new.self.scene, c.answer.new.self.gens) in
+    let before : ReplayState = state_of c.loop.loading.renderer in
+    let after : ReplayState = state_of c.answer.new.self.renderer in
     let payload = c.put_next.new.payload.items in
     let state : after ≡ next_state payload before = c.in_ok-answer.ensures.state ∙ ap (λ (p : List ℕ). next_state p before) c.as_slice.ensures.value in
     let counts : c.answer.new.self.counts ≡ with_answer (accepted payload before) c.loop.loading.counts =
@@ -23,11 +44,12 @@ loop-preserved c =
       last = omega arith;
       frames = omega (arith, ap (λ (x : Counts). x.frames) counts, frames_grow (accepted payload before) c.loop.loading.counts, c.loop.invariant.frames);
       refused = omega (arith, ap (λ (x : Counts). x.refused) counts, refused_grow (accepted payload before) c.loop.loading.counts, c.loop.invariant.refused);
-      pixels = omega (arith, c.in_ok-answer.ensures.most, c.loop.invariant.pixels);
+      pixels = omega (arith, c.in_ok-answer.ensures.pixels, c.loop.invariant.pixels);
+      drawn = omega (arith, c.in_ok-answer.ensures.drawn, c.loop.invariant.drawn);
     }
 
 pub returns : goal.returns
 returns c =
-    counted_none (counts_of (answers_from (payloads c.args.number c.args.count) start_state)) c.loop.loading.counts c.loop.generator (c.loop.loading.scene, c.loop.loading.gens)
+    counted_none (counts_of (answers_from (payloads c.args.number c.args.count) start_state)) c.loop.loading.counts c.loop.generator (state_of c.loop.loading.renderer)
     (c.args.count - c.loop.counter) (omega arith) c.loop.invariant.all
     ∙ file_answers c.args.number c.args.count c.requires

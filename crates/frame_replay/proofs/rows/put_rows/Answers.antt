@@ -1,7 +1,7 @@
 use Rattle.std.proofs.Common.{arith}
 use Rattle.span_kernels.specs.PlanesModel.{pixel_at}
 use Rattle.frame_replay.proofs.Pixels.{no_rows, rows_put}
-use Rattle.frame_replay.proofs.drawing.put_rows.Goals as goal
+use Rattle.frame_replay.proofs.rows.put_rows.Goals as goal
 
 pub loop-y-init : goal.loop-y-init
 loop-y-init c = record { put = no_rows (pixel_at c.args.planes.now) c.args.planes.now.width c.args.out.now.items; last = omega arith }

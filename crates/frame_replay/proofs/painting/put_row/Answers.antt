@@ -2,7 +2,7 @@ use Rattle.std.proofs.Common.{◌++◌, ap, ◌∙◌, arith}
 use Rattle.blend_rules.specs.Colour.{colour_bytes}
 use Rattle.blend_rules.specs.declared.colour.Px.{Px}
 use Rattle.frame_replay.proofs.Pixels.{no_pixels, row_more}
-use Rattle.frame_replay.proofs.painted.put_row.Goals as goal
+use Rattle.frame_replay.proofs.painting.put_row.Goals as goal
 
 pub loop-x-init : goal.loop-x-init
 loop-x-init c = record { put = no_pixels c.args.scene.now c.args.y c.args.out.now.items; last = omega arith }

@@ -2,7 +2,7 @@ use Rattle.std.proofs.Common.{◌≡◌, ◌≤◌, ◌++◌}
 use Rattle.std.specs.List.{flat_map}
 use Rattle.blend_rules.specs.Colour.{colour_bytes}
 use Rattle.frame_replay.specs.Frame.{row_pixels}
-use Rattle.frame_replay.proofs.painted.put_row.Given as goal
+use Rattle.frame_replay.proofs.painting.put_row.Given as goal
 
 -- the pixels so far are put
 abbrev pub invariant-loop-x : goal.invariant-loop-x

@@ -2,7 +2,7 @@ use Rattle.std.proofs.Common.{◌≡◌, ◌≤◌, ◌++◌}
 use Rattle.std.specs.List.{flat_map}
 use Rattle.blend_rules.specs.Colour.{colour_bytes}
 use Rattle.frame_replay.specs.Frame.{pixel_at, row_by_row}
-use Rattle.frame_replay.proofs.painted.put_painted.Given as goal
+use Rattle.frame_replay.proofs.painting.put_painted.Given as goal
 
 -- the rows so far are put
 abbrev pub invariant-loop-y : goal.invariant-loop-y

@@ -1,6 +1,6 @@
 use Rattle.std.proofs.Common.{◌≡◌, ◌+◌, ◌*◌, ◌-◌, ◌++◌, ℕ, List, take, replicate, length, ap, ◌∙◌, arith, rules}
 use Rattle.frame_replay.proofs.Weaves.{woven_row, put_behind}
-use Rattle.frame_replay.proofs.drawing.put_row.Goals as goal
+use Rattle.frame_replay.proofs.rows.put_row.Goals as goal
 
 pub returns : goal.returns
 returns c =
