@@ -22,14 +22,19 @@ struct Run {
 }
 
 /// Whether a command whose output begins with `!` has this run.
-fn run_over<A: Session>(alloc: Global, session: A, run: &Run) -> Result<bool, AllocError>
+fn run_over<A: Session>(
+    alloc: Global,
+    session: &A,
+    subject: &mut A::Subject,
+    run: &Run,
+) -> Result<bool, AllocError>
     requires { IsInputForm A.form }
 {
     let fails = run.source_fails.to_vec(alloc)?;
     let mut source = MemSource::new(run.input.to_vec(alloc)?, 1, fails);
     let room = vec![in alloc; 0; 64]?;
     let mut sink = MemSink::new(room, 1, run.sink_fails.to_vec(alloc)?);
-    let ended = answer_input(alloc, b"!", session, &mut source, &mut sink);
+    let ended = answer_input(alloc, b"!", session, subject, &mut source, &mut sink);
     Ok(ended == run.ended && sink.written() == run.written && source.left().len() == run.left)
 }
 
@@ -37,14 +42,15 @@ fn run_over<A: Session>(alloc: Global, session: A, run: &Run) -> Result<bool, Al
 fn run_over_payloads<A: AnswerPayload>(
     alloc: Global,
     by: A,
+    subject: &mut A::Subject,
     run: &Run,
 ) -> Result<bool, AllocError> {
-    run_over(alloc, Transactions { by }, run)
+    run_over(alloc, &Transactions { by }, subject, run)
 }
 
 /// Whether the command over bells and payloads has it.
 fn run_over_bells(alloc: Global, run: &Run) -> Result<bool, AllocError> {
-    run_over(alloc, Bells, run)
+    run_over(alloc, &Bells, &mut (), run)
 }
 
 /// Two payloads, of three bytes and of none.
@@ -62,7 +68,9 @@ const LENGTHS: Run = Run {
 
 #[test]
 fn the_state_goes_from_entry_to_entry(rt: HostRuntime) {
-    assert!(rt; run_over_payloads(rt.alloc(), Lengths { before: 9 }, &LENGTHS) == Ok(true));
+    let mut before = 9;
+    assert!(rt; run_over_payloads(rt.alloc(), Lengths, &mut before, &LENGTHS) == Ok(true));
+    assert!(rt; before == 0, "the last payload has no bytes");
 }
 
 /// Each payload answered by its first byte, of which the second has none.
@@ -80,7 +88,7 @@ const FIRST_BYTES: Run = Run {
 
 #[test]
 fn a_refused_entry_ends_a_command(rt: HostRuntime) {
-    assert!(rt; run_over_payloads(rt.alloc(), FirstBytes, &FIRST_BYTES) == Ok(true));
+    assert!(rt; run_over_payloads(rt.alloc(), FirstBytes, &mut (), &FIRST_BYTES) == Ok(true));
 }
 
 const BELLS: [Run; 5] = [

@@ -5,3 +5,5 @@ pub mod Rules
 pub mod Framings
 pub mod Progress
 pub mod Magic
+pub mod Openings
+pub mod States

@@ -17,6 +17,15 @@ Opens opens (Err Broken) taken rest = (opens taken ≡ false) × (opens (taken +
 Opens opens (Err Failed) taken rest = opens taken ≡ false
 Opens opens (Err NoMemory) taken rest = opens taken ≡ false
 
+-- What beginning an input leaves: four bytes were taken that are the magic, and the output's was written. Or the input's magic wasn't there, and nothing was written; or a part of the output's.
+abbrev pub OpeningLeaves : (List ℕ → Bool) → List ℕ → Option (List ℕ) → Option (List ℕ) → Result (Unit {0}) RunError → List ℕ → List ℕ → Type 0
+OpeningLeaves opens magic old new (Ok _) taken rest = Opens opens (Ok tt) taken rest × Wrote old new magic
+OpeningLeaves opens magic old new (Err BrokenInput) taken rest = Opens opens (Err Broken) taken rest × (new ≡ old)
+OpeningLeaves opens magic old new (Err (Refused fault)) taken rest = ⊥
+OpeningLeaves opens magic old new (Err ReadFailed) taken rest = Opens opens (Err Failed) taken rest × (new ≡ old)
+OpeningLeaves opens magic old new (Err WriteFailed) taken rest = Opens opens (Ok tt) taken rest × ((out : List ℕ) × IsPrefix out magic × Wrote old new out)
+OpeningLeaves opens magic old new (Err OutOfMemory) taken rest = Opens opens (Err NoMemory) taken rest × (new ≡ old)
+
 -- what is certainly written of the answers to these entries: the magic, and the records of all but the last
 abbrev pub certain_answers : {R : Type 0} → Output R → List R → List ℕ
 certain_answers output [] = []

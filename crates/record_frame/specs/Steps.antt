@@ -51,6 +51,25 @@ StepLeaves form rule is_allowed state next old new (Err ReadFailed) taken rest =
 StepLeaves form rule is_allowed state next old new (Err WriteFailed) taken rest = IsPartOfStep form rule is_allowed state old new taken
 StepLeaves form rule is_allowed state next old new (Err OutOfMemory) taken rest = IsPartOfStep form rule is_allowed state old new taken
 
+-- a step that answers no entry leaves the state
+abbrev pub StepState : {S : Type 0} → Result StepEnd RunError → S → S → Type 0
+StepState (Ok Answered) state next = Unit {0}
+StepState (Ok Closed) state next = next ≡ state
+StepState (Err BrokenInput) state next = next ≡ state
+StepState (Err (Refused fault)) state next = Unit {0}
+StepState (Err ReadFailed) state next = Unit {0}
+StepState (Err WriteFailed) state next = Unit {0}
+StepState (Err OutOfMemory) state next = Unit {0}
+
+-- Where all was answered, and where the framing is broken, the state is that after these entries.
+abbrev pub ReachesState : {R S : Type 0} → AnswerRule R S → S → S → Result (Unit {0}) RunError → List R → Type 0
+ReachesState rule start now (Ok _) entries = now ≡ state_after rule entries start
+ReachesState rule start now (Err BrokenInput) entries = now ≡ state_after rule entries start
+ReachesState rule start now (Err (Refused fault)) entries = Unit {0}
+ReachesState rule start now (Err ReadFailed) entries = Unit {0}
+ReachesState rule start now (Err WriteFailed) entries = Unit {0}
+ReachesState rule start now (Err OutOfMemory) entries = Unit {0}
+
 -- entries before those of a framing
 abbrev pub with_entries : {R : Type 0} → List R → Framing R → Framing R
 with_entries entries framing = record { entries = entries ++ framing.entries; after = framing.after }

@@ -11,8 +11,9 @@ mod session;
 mod transactions;
 
 pub use error::{AnswerError, ReadError, RunError};
-pub use input::answer_input;
+pub use input::{answer_input, open_input};
 pub use limits::{MAX_ENTRIES, MAX_PAYLOAD_BYTES};
 pub use reading::{fill, read_payload, read_tag};
+pub use records::answer_records;
 pub use session::Session;
 pub use transactions::{AnswerPayload, Transactions};

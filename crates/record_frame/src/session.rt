@@ -15,6 +15,9 @@ pub trait Session: Drop {
     /// What is read of an entry beside the bytes of its payload.
     type Head: Copy;
 
+    /// What the command works on.
+    type Subject: Drop;
+
     /// An entry of an input.
     ghost Entry: { Type 0 };
 
@@ -30,8 +33,8 @@ pub trait Session: Drop {
     /// The answer to each entry, and the state after it.
     ghost rule: { AnswerRule Self.Entry Self.State };
 
-    /// The state that a session is in.
-    ghost state: { Self → Self.State };
+    /// The state that the subject is in.
+    ghost state: { Self → Self.Subject → Self.State };
 
     /// Whether an input begins with these four bytes.
     fn opens(magic: &[u8]) -> bool
@@ -52,15 +55,16 @@ pub trait Session: Drop {
         ensures ok_keeps_count { OnOk result (S.faults source.new ≡ S.faults source.old) }
         ensures causes { IfErr result (ReadCause (S.faults source.old) (S.faults source.new)) };
 
-    /// Puts the record that answers an entry into `out`, and takes the state to the next, or answers
-    /// why the entry is refused. A refusal ends the command.
+    /// Puts the record that answers an entry into `out`, and takes the subject's state to the next, or
+    /// answers why the entry is refused. A refusal ends the command.
     fn answer(
-        &mut self,
+        &self,
         alloc: Global,
+        subject: &mut Self::Subject,
         head: Self::Head,
         payload: &[u8],
         out: &mut Vec<u8>,
     ) -> Result<(), AnswerError>
         requires { length payload.now ≤ MAX_PAYLOAD_BYTES }
-        ensures { AnswersBy Self.rule (Self.entry_of head payload.now) (Self.state self.old) (Self.state self.new) out.new.items result };
+        ensures { AnswersBy Self.rule (Self.entry_of head payload.now) (Self.state self.now subject.old) (Self.state self.now subject.new) out.new.items result };
 }

@@ -38,25 +38,29 @@ fn read_transaction<S: Source>(
 
 /// A command that answers payloads one by one.
 pub trait AnswerPayload: Drop {
+    /// What the command works on.
+    type Subject: Drop;
+
     /// What the answers depend on beside the payload.
     ghost State: { Type 0 };
 
-    /// The state that a command is in.
-    ghost state: { Self → Self.State };
+    /// The state that the subject is in.
+    ghost state: { Self → Self.Subject → Self.State };
 
     /// The answer to each payload, and the state after it.
     ghost rule: { AnswerRule (List ℕ) Self.State };
 
-    /// Puts the record that answers a payload into `out`, and takes the state to the next, or answers
-    /// why the payload is refused. A refusal ends the command.
+    /// Puts the record that answers a payload into `out`, and takes the subject's state to the next, or
+    /// answers why the payload is refused. A refusal ends the command.
     fn answer(
-        &mut self,
+        &self,
         alloc: Global,
+        subject: &mut Self::Subject,
         payload: &[u8],
         out: &mut Vec<u8>,
     ) -> Result<(), AnswerError>
         requires { length payload.now ≤ MAX_PAYLOAD_BYTES }
-        ensures { AnswersBy Self.rule payload.now (Self.state self.old) (Self.state self.new) out.new.items result };
+        ensures { AnswersBy Self.rule payload.now (Self.state self.now subject.old) (Self.state self.now subject.new) out.new.items result };
 }
 
 /// Answers the payloads of a file of transactions.
@@ -69,6 +73,8 @@ pub struct Transactions<A: AnswerPayload> {
 impl<A: AnswerPayload> Session for Transactions<A> {
     type Head = ();
 
+    type Subject = A::Subject;
+
     ghost Entry = { List ℕ };
 
     ghost State = { A.State };
@@ -79,7 +85,7 @@ impl<A: AnswerPayload> Session for Transactions<A> {
 
     ghost rule = { A.rule };
 
-    ghost state = { λ session. A.state session.by };
+    ghost state = { λ command subject. A.state command.by subject };
 
     fn opens(magic: &[u8]) -> bool {
         b"WRT1".as_slice() == magic
@@ -94,12 +100,13 @@ impl<A: AnswerPayload> Session for Transactions<A> {
     }
 
     fn answer(
-        &mut self,
+        &self,
         alloc: Global,
+        subject: &mut A::Subject,
         _head: (),
         payload: &[u8],
         out: &mut Vec<u8>,
     ) -> Result<(), AnswerError> {
-        self.by.answer(alloc, payload, out)
+        self.by.answer(alloc, subject, payload, out)
     }
 }

@@ -13,26 +13,27 @@ use wr_io::{Code, Fault, Source};
 
 /// Answers each payload by the length of the one before.
 #[derive(Debug, Drop)]
-pub(super) struct Lengths {
-    pub(super) before: u32,
-}
+pub(super) struct Lengths;
 
 impl AnswerPayload for Lengths {
+    type Subject = u32;
+
     ghost State = { ℕ };
 
-    ghost state = { λ by. by.before };
+    ghost state = { λ _ before. before };
 
     ghost rule = { lengths };
 
     fn answer(
-        &mut self,
+        &self,
         _alloc: Global,
+        before: &mut u32,
         payload: &[u8],
         out: &mut Vec<u8>,
     ) -> Result<(), AnswerError> {
         out.clear();
-        out.extend_from_slice(&self.before.to_le_bytes())?;
-        self.before = payload.len() as u32;
+        out.extend_from_slice(&before.to_le_bytes())?;
+        *before = payload.len() as u32;
         Ok(())
     }
 }
@@ -42,15 +43,18 @@ impl AnswerPayload for Lengths {
 pub(super) struct FirstBytes;
 
 impl AnswerPayload for FirstBytes {
+    type Subject = ();
+
     ghost State = { Unit {0} };
 
-    ghost state = { λ _. tt };
+    ghost state = { λ _ _. tt };
 
     ghost rule = { first_bytes };
 
     fn answer(
-        &mut self,
+        &self,
         _alloc: Global,
+        _subject: &mut (),
         payload: &[u8],
         out: &mut Vec<u8>,
     ) -> Result<(), AnswerError> {
@@ -117,6 +121,8 @@ pub(super) struct Bells;
 impl Session for Bells {
     type Head = bool;
 
+    type Subject = ();
+
     ghost Entry = { Option (List ℕ) };
 
     ghost State = { Unit {0} };
@@ -127,7 +133,7 @@ impl Session for Bells {
 
     ghost rule = { ringing };
 
-    ghost state = { λ _. tt };
+    ghost state = { λ _ _. tt };
 
     fn opens(magic: &[u8]) -> bool {
         b"BELL".as_slice() == magic
@@ -142,8 +148,9 @@ impl Session for Bells {
     }
 
     fn answer(
-        &mut self,
+        &self,
         _alloc: Global,
+        _subject: &mut (),
         head: bool,
         _payload: &[u8],
         out: &mut Vec<u8>,
