@@ -32,7 +32,15 @@ fn start(rt: &HostRuntime) -> io::Result<u8> {
     let mut source = StdSource::new(BufReader::new(rt.alloc(), rt.stdin())?);
     let mut sink = StdSink::new(rt.stdout());
     let mut notes = StdSink::new(rt.stderr());
-    Ok(run(rt.alloc(), &words, &mut source, &mut sink, &mut notes))
+    let mut slot = None;
+    Ok(run(
+        rt.alloc(),
+        &words,
+        &mut source,
+        &mut sink,
+        &mut notes,
+        &mut slot,
+    ))
 }
 
 /// All of `main`: the exit status of the run, or that of memory that ran out before it began.

@@ -1,6 +1,6 @@
 pub mod Statuses
+pub mod Outcomes
 pub mod Replays
-pub mod Beginnings
 pub mod Rendering
 pub mod Marks
 pub mod Pixels
@@ -8,5 +8,7 @@ pub mod Weaves
 pub mod Shown
 pub mod Refusals
 pub mod Counting
+pub mod Loads
+pub mod Slots
 pub mod Sizes
 pub mod Numbers

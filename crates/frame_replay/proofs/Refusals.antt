@@ -61,8 +61,8 @@ pub accepted_answer : (payload : List ℕ) (txn : TxnModel) (state : ReplayState
     → IsAccepted payload state (state_without_frame txn state made)
 accepted_answer payload txn state made spelled off e =
     let work : work_after txn.frame made.0 (tiles_left txn state.scene.policy state.kept) ≡ record { kept = tiles_left txn state.scene.policy state.kept; cost = 0 } = (rw off refl) in
-    let by : accepted_by txn state made ≡ accepted_with false made (record { kept = tiles_left txn state.scene.policy state.kept; cost = 0 }) = ap₂ (λ (b : Bool) (w : Work). accepted_with b made w) off work in
-    let is : accepted payload state ≡ Ok (accepted_with false made (record { kept = tiles_left txn state.scene.policy state.kept; cost = 0 })) =
+    let by : accepted_by txn state made ≡ accepted_with false made (record { kept = tiles_left txn state.scene.policy state.kept; cost = 0 }) state = ap₂ (λ (b : Bool) (w : Work). accepted_with b made w state) off work in
+    let is : accepted payload state ≡ Ok (accepted_with false made (record { kept = tiles_left txn state.scene.policy state.kept; cost = 0 }) state) =
     ap (after_read state) (txn_again txn payload spelled) ∙ ap (after_next txn state) e ∙ ap (λ (a : Accepted). Ok a) by in
     record {
       answer = λ stats. ap (record_for stats) is;

@@ -8,7 +8,7 @@ use Rattle.span_kernels.specs.PlanesModel as planar
 use Rattle.tile_compositor.specs.FrameModel.{FrameModel}
 use Rattle.scene_state.specs.SceneModel.{SceneModel}
 use Rattle.renderer.specs.Frames.{IsThere, ShowScene}
-use Rattle.frame_replay.specs.Frame.{pixel_at, row_by_row, view_pixels}
+use Rattle.frame_replay.specs.Frame.{FramePixels, pixel_at, plane_pixels, row_by_row, scene_pixels, view_pixels}
 use Rattle.frame_replay.proofs.Pixels.{same_rows}
 
 -- their pixels are those of the view
@@ -18,6 +18,14 @@ shown_pixels s planes shown =
     let h = shown.sides.height in
     same_rows (planar.pixel_at planes) (pixel_at s) planes.width planes.height (λ x y hx hy. shown.pixels x y (omega (arith, w, hx)) (omega (arith, h, hy)))
     ∙ ap₂ (λ (w h : ℕ). row_by_row w h (pixel_at s)) w h
+
+-- so they show what the scene does
+pub plane_pixels_are : (s : SceneModel) (planes : PlanesModel) → ShowScene s planes → plane_pixels planes ≡ scene_pixels s
+plane_pixels_are s planes shown =
+    let w = shown.sides.width in
+    let h = shown.sides.height in
+    ap (λ (l : List Px). let p : FramePixels = record { width = planes.width; height = planes.height; pixels = l } in p) (shown_pixels s planes shown)
+    ∙ ap₂ (λ (w h : ℕ). let p : FramePixels = record { width = w; height = h; pixels = view_pixels s } in p) w h
 
 -- the bytes of the last frame, put into what was cleared
 pub shown_bytes : (s : SceneModel) (last : Option FrameModel) (frame : FrameModel) (planes : PlanesModel) (cleared put bytes : List ℕ) → IsThere (λ f. ShowScene s f.planes) last → Some frame ≡ last

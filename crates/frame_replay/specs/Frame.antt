@@ -4,6 +4,8 @@ use Rattle.std.specs.List.{flat_map, range_with_len}
 use Rattle.blend_rules.specs.Colour.{colour_bytes}
 use Rattle.blend_rules.specs.declared.colour.Px.{Px}
 use Rattle.field_forms.specs.Spelling.{u16_bytes}
+use Rattle.span_kernels.specs.PlanesModel.{PlanesModel}
+use Rattle.span_kernels.specs.PlanesModel as planar
 use Rattle.scene_state.specs.Picture.{picture}
 use Rattle.scene_state.specs.SceneModel.{SceneModel}
 use Rattle.frame_replay.specs.Drawn.{drawn_bytes, drawn_pipelines}
@@ -23,6 +25,18 @@ row_by_row width height f = flat_map (λ y. map (λ x. f x y) (range_with_len 0 
 -- the pixels of the view
 abbrev pub view_pixels : SceneModel → List Px
 view_pixels s = row_by_row s.view.0 s.view.1 (pixel_at s)
+
+-- what a frame shows: its sides in pixels, and its pixels, row by row from the top
+pub record FramePixels : Type 0 where
+  pub width : ℕ
+  pub height : ℕ
+  pub pixels : List Px
+
+abbrev pub scene_pixels : SceneModel → FramePixels
+scene_pixels s = record { width = s.view.0; height = s.view.1; pixels = view_pixels s }
+
+abbrev pub plane_pixels : PlanesModel → FramePixels
+plane_pixels p = record { width = p.width; height = p.height; pixels = row_by_row p.width p.height (planar.pixel_at p) }
 
 -- the view's sides, and the pipelines that are drawn
 unfoldable pub frame_head : SceneModel → List ℕ

@@ -58,9 +58,10 @@ pub record IsAccepted (payload : List ℕ) (state after : ReplayState) : Type 0 
   pub answer : (stats : Bool) → record_of stats payload state ≡ 65 ∷ []
   pub made : next_state payload state ≡ after
 
--- the state after a transaction without a frame: of the kept tiles stays what the transaction leaves
+-- the state after a transaction without a frame: of the kept tiles stays what the transaction leaves, and what was drawn stays
 abbrev pub state_without_frame : TxnModel → ReplayState → SceneModel × ℕ → ReplayState
-state_without_frame txn state made = record { scene = made.0; last = made.1; kept = tiles_left txn state.scene.policy state.kept }
+state_without_frame txn state made =
+    record { scene = made.0; last = made.1; kept = tiles_left txn state.scene.policy state.kept; opened = state.opened; frame = state.frame }
 
 -- So is a transaction that has a next scene and asks for no frame.
 abbrev pub AcceptedIsAnswered : Type 0

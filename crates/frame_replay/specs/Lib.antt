@@ -6,4 +6,5 @@ pub mod Replaying
 pub mod Outcome
 pub mod Load
 pub mod Commands
+pub mod Slot
 pub mod Laws

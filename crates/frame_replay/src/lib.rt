@@ -16,5 +16,6 @@ mod words;
 pub use file_generator::generate;
 pub use laws::{drawn_laws, paint_laws, refusal_laws, replay_laws};
 pub use program::run;
+pub use replaying::replay_on;
 pub use words::Command;
 pub use wr_io::{StdSink, StdSource};

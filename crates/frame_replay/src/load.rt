@@ -1,6 +1,6 @@
 //! The command `load`: a summary of the answers to a generated file.
 
-ghost use Rattle.std.specs.Prelude.{◌≡◌, ◌≢◌, ◌≤◌, ◌<◌, ◌+◌, ◌^◌, ◌*◌, ◌++◌, ◌⊎◌, [], length, sum, OnOk, IfOk};
+ghost use Rattle.std.specs.Prelude.{◌≡◌, ◌≢◌, ◌≤◌, ◌<◌, ◌+◌, ◌^◌, ◌*◌, ◌++◌, ◌⊎◌, [], false, length, sum, OnOk, IfOk};
 ghost use Rattle.std.specs.List.{flat_map};
 ghost use Rattle.blend_rules.specs.Colour.{colour_bytes};
 ghost use Rattle.wr_io.specs.Streams.{HasFailed};
@@ -8,10 +8,11 @@ ghost use Rattle.renderer.specs.Frames.{ShowScene};
 ghost use Rattle.file_generator.specs.Files.{file};
 ghost use Rattle.scene_state.specs.SceneModel.{SceneModel};
 ghost use Rattle.scene_state.specs.Limits.{IsScene};
-ghost use Rattle.frame_replay.specs.Answer.{accepted, next_state, start_state, state_of};
+ghost use Rattle.frame_replay.specs.Answer.{accepted, next_state, start_state, state_after_file, state_of};
 ghost use Rattle.frame_replay.specs.Frame.{view_pixels};
 ghost use Rattle.frame_replay.specs.Load.{HasRoom, Summarises, answers_to, counts_of, line, summary, summary_lines, with_answer, with_frame};
 ghost use Rattle.frame_replay.specs.Replaying.{HasFrame};
+ghost use Rattle.frame_replay.specs.Slot.{Holds, StandsOrHolds};
 
 use crate::replaying::apply;
 use crate::rows::put_rows;
@@ -126,10 +127,11 @@ impl Loading {
     }
 }
 
-/// What is counted of the answers to a generated file. One payload and one frame are held at a time.
-fn counted(alloc: Global, number: u64, count: u32) -> Result<Counts, AllocError>
+/// What a generated file makes. One payload and one frame are held at a time.
+fn loaded(alloc: Global, number: u64, count: u32) -> Result<Loading, AllocError>
     requires { count ≤ MAX_TRANSACTIONS }
-    ensures { IfOk result (λ counts. counts ≡ counts_of (answers_to (file number count))) }
+    ensures counts { IfOk result (λ loading. loading.counts ≡ counts_of (answers_to (file number count))) }
+    ensures state { IfOk result (λ loading. state_of loading.renderer ≡ state_after_file (file number count) false) }
 {
     let mut generator = Generator::new(alloc, number);
     let mut loading = Loading::new(alloc)?;
@@ -138,7 +140,7 @@ fn counted(alloc: Global, number: u64, count: u32) -> Result<Counts, AllocError>
         generator.put_next(&mut payload)?;
         loading.answer(alloc, payload.as_slice())?;
     }
-    Ok(loading.counts)
+    Ok(loading)
 }
 
 /// Appends a word and a number.
@@ -162,26 +164,44 @@ fn summary_text(alloc: Global, count: u32, counts: Counts) -> Result<Vec<u8>, Al
     Ok(out)
 }
 
-/// The summary of the answers to a generated file.
+/// The summary of the answers to a generated file. `slot` takes the renderer that made the frames.
 #[tactic(auto, unfolding(crate::specs::Load::summary))]
-fn summary(alloc: Global, number: u64, count: u32) -> Result<Vec<u8>, AllocError>
+fn summary(
+    alloc: Global,
+    number: u64,
+    count: u32,
+    slot: &mut Option<Renderer>,
+) -> Result<Vec<u8>, AllocError>
     requires { count ≤ MAX_TRANSACTIONS }
-    ensures { IfOk result (λ text. text.items ≡ summary number count) }
+    ensures text { IfOk result (λ text. text.items ≡ summary number count) }
+    ensures slot { IfOk result (λ text. Holds (state_after_file (file number count) false) slot.new) }
+    ensures slot_stands { StandsOrHolds slot.old slot.new }
 {
-    let counts = counted(alloc, number, count)?;
-    summary_text(alloc, count, counts)
+    let loading = loaded(alloc, number, count)?;
+    let text = summary_text(alloc, count, loading.counts)?;
+    *slot = Some(loading.renderer);
+    Ok(text)
 }
 
-/// Writes the summary of the answers to a generated file, and gives the exit status: 0, 4 or 5.
-pub(crate) fn load<K: Sink>(alloc: Global, number: u64, count: u32, sink: &mut K) -> u8
+/// Writes the summary of the answers to a generated file, and gives the exit status: 0, 4 or 5. `slot` takes the renderer
+/// that made the frames.
+pub(crate) fn load<K: Sink>(
+    alloc: Global,
+    number: u64,
+    count: u32,
+    sink: &mut K,
+    slot: &mut Option<Renderer>,
+) -> u8
     requires { count ≤ MAX_TRANSACTIONS }
     ensures told { Summarises number count result (K.written sink.old) (K.written sink.new) }
     ensures status { (result ≡ 0) ⊎ ((result ≡ 4) ⊎ (result ≡ 5)) }
     ensures never_falls { K.faults sink.old ≤ K.faults sink.new }
     ensures write_failed { result ≡ 4 → HasFailed (K.faults sink.old) (K.faults sink.new) }
     ensures count { result ≢ 4 → K.faults sink.new ≡ K.faults sink.old }
+    ensures slot { result ≡ 0 → Holds (state_after_file (file number count) false) slot.new }
+    ensures slot_stands { StandsOrHolds slot.old slot.new }
 {
-    match summary(alloc, number, count) {
+    match summary(alloc, number, count, slot) {
         Err(_) => 5,
         Ok(text) => match write_whole(sink, text.as_slice()) {
             Ok(()) => 0,

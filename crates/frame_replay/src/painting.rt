@@ -91,7 +91,7 @@ fn answer(
     }
 }
 
-/// A scene, painted anew for each frame.
+/// A scene, and the counter of generations.
 #[derive(Drop)]
 pub(crate) struct Painting {
     scene: Scene,
@@ -110,20 +110,27 @@ impl Painting {
     }
 }
 
-impl AnswerPayload for Painting {
+/// Paints each frame anew.
+#[derive(Drop)]
+pub(crate) struct Painter;
+
+impl AnswerPayload for Painter {
+    type Subject = Painting;
+
     ghost State = { SceneModel × ℕ };
 
-    ghost state = { λ painting. (painting.scene, painting.gens) };
+    ghost state = { λ _ painting. (painting.scene, painting.gens) };
 
     ghost rule = { painting };
 
     fn answer(
-        &mut self,
+        &self,
         alloc: Global,
+        subject: &mut Painting,
         payload: &[u8],
         out: &mut Vec<u8>,
     ) -> Result<(), AnswerError> {
-        answer(alloc, payload, &mut self.scene, &mut self.gens, out)?;
+        answer(alloc, payload, &mut subject.scene, &mut subject.gens, out)?;
         Ok(())
     }
 }

@@ -1,21 +1,25 @@
 //! The top call: the words, the input, the output, and what a status notes.
 
-ghost use Rattle.std.specs.Prelude.{◌≡◌, ◌≢◌, ◌≤◌, ◌↔◌, ◌⊎◌, IfSome, None, ℕ, List};
+ghost use Rattle.std.specs.Prelude.{◌≡◌, ◌≢◌, ◌≤◌, ◌↔◌, ◌⊎◌, IfSome, None, Some, ℕ, List, false};
 ghost use Rattle.wr_io.specs.Streams.{HasFailed};
+ghost use Rattle.record_frame.specs.Framing.{framing};
 ghost use Rattle.record_frame.specs.Reading.{Took};
+ghost use Rattle.record_frame.specs.Transactions.{transactions};
 ghost use Rattle.record_frame.specs.Writing.{IsPrefix, Wrote};
-ghost use Rattle.frame_replay.specs.Answer.{replayed};
+ghost use Rattle.file_generator.specs.Files.{file};
+ghost use Rattle.frame_replay.specs.Answer.{body_replayed, replayed, state_after_file};
 ghost use Rattle.frame_replay.specs.Painting.{painted};
-ghost use Rattle.frame_replay.specs.Outcome.{Completes, Outcome, note_of};
+ghost use Rattle.frame_replay.specs.Outcome.{BodyCompletes, BodyOutcome, Completes, Outcome, note_of};
 ghost use Rattle.frame_replay.specs.Commands.{IfLoad, IsCommand, command_named, completes, leaves};
 ghost use Rattle.frame_replay.specs.Load.{Summarises};
+ghost use Rattle.frame_replay.specs.Slot.{Holds, IfReplay, SlotAfterRecords, SlotAfterReplay, SlotStands, StandsOrHolds};
 
 use crate::load::load;
-use crate::painting::Painting;
-use crate::replaying::Replay;
-use crate::status::answer_status;
+use crate::painting::{Painter, Painting};
+use crate::replaying::{Replay, replay_on};
+use crate::status::{answer_status, status};
 use crate::words::{Command, find_command};
-use record_frame::Transactions;
+use record_frame::{MAX_ENTRIES, Transactions, open_input};
 use renderer::Renderer;
 use std::alloc::Global;
 use wr_io::{Sink, Source, write_whole};
@@ -26,9 +30,44 @@ const USAGE: u8 = 1;
 /// The exit status of a run for which memory ran out at its start.
 const OUT_OF_MEMORY: u8 = 5;
 
-/// Answers a file of transactions by a renderer's frames, with or without what they took, and gives the exit status: 0,
-/// or 2 to 5.
-fn replay<S: Source, K: Sink>(alloc: Global, stats: bool, source: &mut S, sink: &mut K) -> u8
+/// Answers the records of a file that follow its magic by the frames of a new renderer, with or without what they took,
+/// and gives the exit status: 0, or 2 to 5. The renderer goes into `slot`.
+fn replay_anew<S: Source, K: Sink>(
+    alloc: Global,
+    stats: bool,
+    source: &mut S,
+    sink: &mut K,
+    slot: &mut Option<Renderer>,
+) -> u8
+    ensures range { (result ≢ 1) × (result ≤ 5) }
+    ensures told { IfSome (S.left source.old) (λ bytes. Took bytes (S.left source.new) (BodyOutcome (body_replayed stats) result (K.written sink.old) (K.written sink.new))) }
+    ensures source_never_falls { S.faults source.old ≤ S.faults source.new }
+    ensures sink_never_falls { K.faults sink.old ≤ K.faults sink.new }
+    ensures read_failed { result ≡ 3 → HasFailed (S.faults source.old) (S.faults source.new) }
+    ensures write_failed { result ≡ 4 → HasFailed (K.faults sink.old) (K.faults sink.new) }
+    ensures source_count { result ≢ 3 → S.faults source.new ≡ S.faults source.old }
+    ensures sink_count { result ≢ 4 → K.faults sink.new ≡ K.faults sink.old }
+    ensures complete { result ≢ 3 → result ≢ 4 → IfSome (S.left source.old) (BodyCompletes (body_replayed stats) result) }
+    ensures slot { IfSome (S.left source.old) (λ bytes. SlotAfterRecords stats result (framing transactions MAX_ENTRIES bytes).entries slot.new) }
+    ensures slot_stands { StandsOrHolds slot.old slot.new }
+{
+    let Ok(mut renderer) = Renderer::new(alloc) else {
+        return OUT_OF_MEMORY;
+    };
+    let ended = replay_on(alloc, &mut renderer, stats, source, sink);
+    *slot = Some(renderer);
+    ended
+}
+
+/// Answers a file of transactions by the frames of a new renderer, with or without what they took, and gives the exit
+/// status: 0, or 2 to 5. The renderer goes into `slot` where the file begins with its magic and memory suffices for it.
+fn replay<S: Source, K: Sink>(
+    alloc: Global,
+    stats: bool,
+    source: &mut S,
+    sink: &mut K,
+    slot: &mut Option<Renderer>,
+) -> u8
     ensures range { (result ≢ 1) × (result ≤ 5) }
     ensures told { IfSome (S.left source.old) (λ input. Took input (S.left source.new) (Outcome (replayed stats) result (K.written sink.old) (K.written sink.new))) }
     ensures source_never_falls { S.faults source.old ≤ S.faults source.new }
@@ -38,12 +77,13 @@ fn replay<S: Source, K: Sink>(alloc: Global, stats: bool, source: &mut S, sink: 
     ensures source_count { result ≢ 3 → S.faults source.new ≡ S.faults source.old }
     ensures sink_count { result ≢ 4 → K.faults sink.new ≡ K.faults sink.old }
     ensures complete { result ≢ 3 → result ≢ 4 → IfSome (S.left source.old) (Completes (replayed stats) result) }
+    ensures slot { IfSome (S.left source.old) (λ input. SlotAfterReplay stats result input slot.old slot.new) }
+    ensures slot_stands { StandsOrHolds slot.old slot.new }
 {
-    let Ok(renderer) = Renderer::new(alloc) else {
-        return OUT_OF_MEMORY;
-    };
-    let by = Replay { renderer, stats };
-    answer_status(alloc, b"WRF1", Transactions { by }, source, sink)
+    match open_input::<Transactions<Replay>, S, K>(b"WRF1", source, sink) {
+        Err(error) => status(Err(error)),
+        Ok(()) => replay_anew(alloc, stats, source, sink, slot),
+    }
 }
 
 /// Answers a file of transactions by frames that are painted pixel by pixel, and gives the exit status: 0, or 2 to 5.
@@ -58,12 +98,19 @@ fn paint<S: Source, K: Sink>(alloc: Global, source: &mut S, sink: &mut K) -> u8
     ensures sink_count { result ≢ 4 → K.faults sink.new ≡ K.faults sink.old }
     ensures complete { result ≢ 3 → result ≢ 4 → IfSome (S.left source.old) (Completes painted result) }
 {
-    let by = Painting::new(alloc);
-    answer_status(alloc, b"WRF1", Transactions { by }, source, sink)
+    let session = Transactions { by: Painter };
+    let mut painting = Painting::new(alloc);
+    answer_status(alloc, b"WRF1", &session, &mut painting, source, sink)
 }
 
 /// Does what a command is for, and gives the exit status: 0, or 2 to 5.
-fn perform<S: Source, K: Sink>(alloc: Global, command: Command, source: &mut S, sink: &mut K) -> u8
+fn perform<S: Source, K: Sink>(
+    alloc: Global,
+    command: Command,
+    source: &mut S,
+    sink: &mut K,
+    slot: &mut Option<Renderer>,
+) -> u8
     requires { IsCommand command }
     ensures range { (result ≢ 1) × (result ≤ 5) }
     ensures told { IfSome (S.left source.old) (λ input. Took input (S.left source.new) (leaves command result (K.written sink.old) (K.written sink.new))) }
@@ -76,11 +123,14 @@ fn perform<S: Source, K: Sink>(alloc: Global, command: Command, source: &mut S, 
     ensures source_count { result ≢ 3 → S.faults source.new ≡ S.faults source.old }
     ensures sink_count { result ≢ 4 → K.faults sink.new ≡ K.faults sink.old }
     ensures complete { result ≢ 3 → result ≢ 4 → IfSome (S.left source.old) (completes command result) }
+    ensures slot_replay { IfReplay command (λ stats. IfSome (S.left source.old) (λ input. SlotAfterReplay stats result input slot.old slot.new)) }
+    ensures slot_load { IfLoad command (λ number count. result ≡ 0 → Holds (state_after_file (file number count) false) slot.new) }
+    ensures slot_stands { SlotStands (Some command) slot.old slot.new }
 {
     match command {
-        Command::Replay { stats } => replay(alloc, stats, source, sink),
+        Command::Replay { stats } => replay(alloc, stats, source, sink, slot),
         Command::Paint => paint(alloc, source, sink),
-        Command::Load { number, count } => load(alloc, number, count, sink),
+        Command::Load { number, count } => load(alloc, number, count, sink, slot),
     }
 }
 
@@ -102,7 +152,8 @@ fn note(status: u8) -> &'static str
 /// sink, writes a text for each status but 0 to `notes`, and answers the exit status. Each record is
 /// written whole before the next is read, and the closing byte comes with status 0 alone. What follows
 /// the closing byte of the input stays in the source. No call on the source or the sink follows one
-/// that failed.
+/// that failed. `slot` takes the renderer that made the frames: that of `replay` once the file's magic was right, and
+/// that of `load` once its frames were made. Words that name no command, and `paint`, leave it.
 ///
 /// | status | comes |
 /// |---|---|
@@ -118,6 +169,7 @@ pub fn run<S: Source, K: Sink, N: Sink>(
     source: &mut S,
     sink: &mut K,
     notes: &mut N,
+    slot: &mut Option<Renderer>,
 ) -> u8
     ensures range { result ≤ 5 }
 
@@ -133,6 +185,11 @@ pub fn run<S: Source, K: Sink, N: Sink>(
     ensures load { IfSome (command_named words.now) (λ command. IfLoad command (λ number count.
         (source.new ≡ source.old) × Summarises number count result (K.written sink.old) (K.written sink.new))) }
     ensures load_status { IfSome (command_named words.now) (λ command. IfLoad command (λ number count. (result ≡ 0) ⊎ ((result ≡ 4) ⊎ (result ≡ 5)))) }
+
+    // What the slot holds, where what was read is told, and in any case.
+    ensures slot_replay { IfSome (command_named words.now) (λ command. IfReplay command (λ stats. IfSome (S.left source.old) (λ input. SlotAfterReplay stats result input slot.old slot.new))) }
+    ensures slot_load { IfSome (command_named words.now) (λ command. IfLoad command (λ number count. result ≡ 0 → Holds (state_after_file (file number count) false) slot.new)) }
+    ensures slot_stands { SlotStands (command_named words.now) slot.old slot.new }
 
     // The counts of failed calls: status 3 where one of the source failed, and 4 where one of the sink did.
     ensures source_never_falls { S.faults source.old ≤ S.faults source.new }
@@ -152,7 +209,7 @@ pub fn run<S: Source, K: Sink, N: Sink>(
     ensures notes_never_fall { N.faults notes.old ≤ N.faults notes.new }
 {
     let answer = match find_command(words) {
-        Some(command) => perform(alloc, command, source, sink),
+        Some(command) => perform(alloc, command, source, sink, slot),
         None => USAGE,
     };
     // A failing note changes no status.

@@ -1,17 +1,24 @@
 //! The command `replay`: payloads answered by frames of a renderer.
 
-ghost use Rattle.std.specs.Prelude.{◌≡◌, ◌++◌, ◌≤◌, ◌^◌, Bool, length, OnOk};
-ghost use Rattle.renderer.specs.Frames.{IsFrameOf, IsThere};
+ghost use Rattle.std.specs.Prelude.{◌≡◌, ◌≢◌, ◌++◌, ◌≤◌, ◌^◌, [], Bool, length, IfSome, OnOk};
+ghost use Rattle.wr_io.specs.Streams.{HasFailed};
+ghost use Rattle.record_frame.specs.Answers.{output_from};
+ghost use Rattle.record_frame.specs.Framing.{framing};
+ghost use Rattle.record_frame.specs.Reading.{Took};
+ghost use Rattle.record_frame.specs.Transactions.{transactions};
 ghost use Rattle.frame_replay.specs.Answer.{ReplayState, framed_record, next_state, record_of, replaying, start_state, state_of};
+ghost use Rattle.frame_replay.specs.Outcome.{BodyCompletes, BodyOutcome, ReachesEnd};
 ghost use Rattle.frame_replay.specs.Replaying.{Replays, HasFrame};
 
 use crate::frame::put_frame;
 use crate::records::{put_refusal, put_stats, read};
+use crate::status::records_status;
 use field_forms::put_byte;
-use record_frame::{AnswerError, AnswerPayload};
+use record_frame::{AnswerError, AnswerPayload, MAX_ENTRIES, Transactions};
 use renderer::{Answer, Renderer, Report};
 use scene_state::ApplyError;
 use std::alloc::{AllocError, Global};
+use wr_io::{Sink, Source};
 
 /// Applies the transaction that a payload spells, or answers why it is refused.
 pub(crate) fn apply(
@@ -65,27 +72,57 @@ fn answer(
     }
 }
 
-/// A replay: what makes the frames, and whether what they take is told.
+/// Answers transactions by a renderer's frames.
 #[derive(Drop)]
 pub(crate) struct Replay {
-    pub(crate) renderer: Renderer,
+    /// Whether what frames took is told.
     pub(crate) stats: bool,
 }
 
 impl AnswerPayload for Replay {
+    type Subject = Renderer;
+
     ghost State = { Bool × ReplayState };
 
-    ghost state = { λ replay. (replay.stats, state_of replay.renderer) };
+    ghost state = { λ replay renderer. (replay.stats, state_of renderer) };
 
     ghost rule = { replaying };
 
     fn answer(
-        &mut self,
+        &self,
         alloc: Global,
+        subject: &mut Renderer,
         payload: &[u8],
         out: &mut Vec<u8>,
     ) -> Result<(), AnswerError> {
-        answer(alloc, payload, &mut self.renderer, self.stats, out)?;
+        answer(alloc, payload, subject, self.stats, out)?;
         Ok(())
     }
+}
+
+/// Answers the records of an input that follow its magic by a renderer's frames, with or without what they took, and
+/// gives the exit status: 0, or 2 to 5. With status 0 and 2 the renderer is where all whole transactions take it, with the
+/// last frame that was asked for. With the others no kept tile is stale.
+pub fn replay_on<S: Source, K: Sink>(
+    alloc: Global,
+    renderer: &mut Renderer,
+    stats: bool,
+    source: &mut S,
+    sink: &mut K,
+) -> u8
+    ensures range { (result ≢ 1) × (result ≤ 5) }
+    ensures told { IfSome (S.left source.old) (λ bytes. Took bytes (S.left source.new) (BodyOutcome (output_from transactions [] replaying (stats, state_of renderer.old)) result (K.written sink.old) (K.written sink.new))) }
+    ensures state { IfSome (S.left source.old) (λ bytes. ReachesEnd replaying result (stats, state_of renderer.old) (stats, state_of renderer.new) (framing transactions MAX_ENTRIES bytes).entries) }
+    ensures source_never_falls { S.faults source.old ≤ S.faults source.new }
+    ensures sink_never_falls { K.faults sink.old ≤ K.faults sink.new }
+    ensures read_failed { result ≡ 3 → HasFailed (S.faults source.old) (S.faults source.new) }
+    ensures write_failed { result ≡ 4 → HasFailed (K.faults sink.old) (K.faults sink.new) }
+    ensures source_count { result ≢ 3 → S.faults source.new ≡ S.faults source.old }
+    ensures sink_count { result ≢ 4 → K.faults sink.new ≡ K.faults sink.old }
+    ensures complete { result ≢ 3 → result ≢ 4 → IfSome (S.left source.old) (BodyCompletes (output_from transactions [] replaying (stats, state_of renderer.old)) result) }
+{
+    let session = Transactions {
+        by: Replay { stats },
+    };
+    records_status(alloc, &session, renderer, source, sink)
 }
