@@ -22,19 +22,41 @@ mod resources;
 mod scenes;
 mod shapes;
 mod slices;
+mod statistics;
 mod transactions;
 
-/// What is written for an input, into this much room. The run has to end well.
-fn replayed(rt: &(impl Abort + AllocGlobal), input: Vec<u8>, room: usize) -> Result<Vec<u8>, Fail> {
-    let words = vec![in rt.alloc(); String::from_str(rt.alloc(), "replay")?]?;
+/// What a command writes for an input, into this much room. The run has to end well.
+fn answered_by(
+    rt: &(impl Abort + AllocGlobal),
+    command: &[&str],
+    input: Vec<u8>,
+    room: usize,
+) -> Result<Vec<u8>, Fail> {
+    let mut words = Vec::new(rt.alloc());
+    for word in command {
+        words.push(String::from_str(rt.alloc(), word)?)?;
+    }
     let mut source = MemSource::new(input, 1 << 20, Vec::new(rt.alloc()));
     let room = vec![in rt.alloc(); 0; room]?;
     let mut sink = MemSink::new(room, 1 << 20, Vec::new(rt.alloc()));
     let room = vec![in rt.alloc(); 0; 256]?;
     let mut notes = MemSink::new(room, 1 << 20, Vec::new(rt.alloc()));
-    let status = run(rt.alloc(), &words, &mut source, &mut sink, &mut notes);
+    let mut slot = None;
+    let status = run(
+        rt.alloc(),
+        &words,
+        &mut source,
+        &mut sink,
+        &mut notes,
+        &mut slot,
+    );
     assert_eq!(rt; status, 0);
     Ok(sink.written().to_vec(rt.alloc())?)
+}
+
+/// What a replay writes.
+fn replayed(rt: &(impl Abort + AllocGlobal), input: Vec<u8>, room: usize) -> Result<Vec<u8>, Fail> {
+    answered_by(rt, &["replay"], input, room)
 }
 
 /// Replays these transactions, and compares what is written with these answers.

@@ -1,6 +1,7 @@
 //! Whole runs over memory: worked files, their answers, statuses and notes.
 
 use frame_replay::run;
+use renderer::Renderer;
 use std::test::Fail;
 use wr_io::{MemSink, MemSource};
 
@@ -13,6 +14,7 @@ mod loads;
 mod payloads;
 mod refusals;
 mod rows;
+mod slots;
 
 /// What a run left.
 #[derive(Drop)]
@@ -21,6 +23,8 @@ struct Ran {
     out: Vec<u8>,
     note: Vec<u8>,
     left: usize,
+    /// How many pixels the renderer drew that the slot holds, where there is one.
+    drawn: Option<u64>,
 }
 
 /// How the ends of a run behave: at most so many bytes a call, and failures at these calls.
@@ -42,6 +46,14 @@ const CALM: Ends<'static> = Ends {
     notes_fail: &[],
 };
 
+/// How many pixels a renderer drew, where there is one.
+fn drawn_by(slot: &Option<Renderer>) -> Option<u64> {
+    match slot {
+        Some(renderer) => Some(renderer.opened()),
+        None => None,
+    }
+}
+
 /// A run with these words over an input.
 fn ran_over(rt: &HostRuntime, words: &[&str], input: &[u8], ends: &Ends<'_>) -> Result<Ran, Fail> {
     let most = ends.most.max(1);
@@ -55,12 +67,21 @@ fn ran_over(rt: &HostRuntime, words: &[&str], input: &[u8], ends: &Ends<'_>) -> 
     let mut sink = MemSink::new(room, most, ends.sink_fails.to_vec(rt.alloc())?);
     let room = vec![in rt.alloc(); 0; 256]?;
     let mut notes = MemSink::new(room, most, ends.notes_fail.to_vec(rt.alloc())?);
-    let status = run(rt.alloc(), &given, &mut source, &mut sink, &mut notes);
+    let mut slot = None;
+    let status = run(
+        rt.alloc(),
+        &given,
+        &mut source,
+        &mut sink,
+        &mut notes,
+        &mut slot,
+    );
     Ok(Ran {
         status,
         out: sink.written().to_vec(rt.alloc())?,
         note: notes.written().to_vec(rt.alloc())?,
         left: source.left().len(),
+        drawn: drawn_by(&slot),
     })
 }
 

@@ -66,3 +66,20 @@ pub(super) fn frame_at(out: &[u8], number: usize) -> Option<Shown<'_>> {
     let pixels = rest.get(start..length(rest)?)?;
     Some(Shown { width, pixels })
 }
+
+/// How many tiles were kept after the frame of this number, from 0, and how many of their pixels it drew. Each transaction
+/// has to be answered by a frame and its statistics.
+pub(super) fn statistics_at(out: &[u8], number: usize) -> Option<(u32, u64)> {
+    let mut rest = out.get(4..)?;
+    for _ in 0..number {
+        let after = rest.get(length(rest)?..)?;
+        rest = after.get(13..)?;
+    }
+    match rest.get(length(rest)?..)? {
+        [b'S', a, b, c, d, e, f, g, h, i, j, k, l, ..] => Some((
+            u32::from_le_bytes([*a, *b, *c, *d]),
+            u64::from_le_bytes([*e, *f, *g, *h, *i, *j, *k, *l]),
+        )),
+        _ => None,
+    }
+}

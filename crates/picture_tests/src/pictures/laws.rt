@@ -2,7 +2,7 @@
 
 use super::colours::{BLUE, GREEN, RED, WHITE, grey};
 use super::frames::frame_at;
-use super::operations::{add_glyph, add_image, list, scroll, shift, view};
+use super::operations::{add_glyph, add_image, list, scroll, shift, tiles, view};
 use super::parts::Part::Solid;
 use super::parts::{NONE, Part, ROOT};
 use super::replayed;
@@ -21,14 +21,15 @@ const INNER: [Part<'static>; 2] = [
     Solid(ROOT, NONE, [3, 0, 6, 4], [20, 0, 60, 200]),
 ];
 
-/// What is sent before the list of a scene: a view, an image, a glyph, positions and an offset.
+/// What is sent before the list of a scene: a view, small tiles, an image, a glyph, positions and an offset.
 fn resources(alloc: Global) -> Result<Vec<u8>, Fail> {
     let texels = [RED, GREEN, BLUE, [9, 9, 9, 90]];
     let image = add_image(alloc, 9, [2, 2], &texels)?;
     let glyph = add_glyph(alloc, 5, [2, 2], &[50, 100, 200, 255])?;
     let (down, aside) = (scroll(1, [0, 3]), scroll(2, [2, 0]));
-    let (view, moved) = (view([8, 8], WHITE), shift(7, [-1, 1]));
-    sent(alloc, &[&view, &image, &glyph, &down, &aside, &moved])
+    let (view, small) = (view([8, 8], WHITE), tiles(64, 255));
+    let moved = shift(7, [-1, 1]);
+    sent(alloc, &[&view, &small, &image, &glyph, &down, &aside, &moved])
 }
 
 /// The pixels of a frame of these parts.

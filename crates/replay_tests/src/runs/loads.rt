@@ -17,6 +17,11 @@ fn a_generated_file_begins_so(rt: HostRuntime) -> Result<(), Fail> {
     Ok(())
 }
 
+/// How many lines a text has.
+fn lines(text: &[u8]) -> usize {
+    text.iter().filter(|byte| **byte == b'\n').count()
+}
+
 #[test]
 fn a_load_says_the_same_twice_and_reads_nothing(rt: HostRuntime) -> Result<(), Fail> {
     let first = ran_over(&rt, &["load", "1", "5"], b"WRT1Z", &CALM)?;
@@ -25,6 +30,7 @@ fn a_load_says_the_same_twice_and_reads_nothing(rt: HostRuntime) -> Result<(), F
     assert_eq!(rt; (first.status, first.left, first.note.len()), (0, 5, 0));
     assert!(rt; first.out.starts_with(start));
     assert_eq!(rt; first.out.as_slice(), again.out.as_slice());
+    assert_eq!(rt; lines(&first.out), 5);
     Ok(())
 }
 
