@@ -1,5 +1,5 @@
 -- The state that a generated file leads to, payload by payload.
-use Rattle.std.proofs.Common.{◌≡◌, ℕ, suc, ◌≤◌, Bool, false, List, sym, ap, subst, ◌∙◌, arith}
+use Rattle.std.proofs.Common.{◌≡◌, ℕ, suc, ◌≤◌, false, List, sym, ap, subst, ◌∙◌, arith}
 use Rattle.record_frame.specs.Framing.{max_entries}
 use Rattle.file_generator.specs.Files.{Generating, next_payload, after_payload, payloads_from, payloads, file}
 use Rattle.file_generator.proofs.Framed.{file_framed}

@@ -1,13 +1,11 @@
 -- What exit statuses say of how runs ended.
-use Rattle.std.proofs.Common.{◌≡◌, ◌≢◌, ℕ, List, [], ◌++◌, Option, Some, None, IfSome, inl, inr, Result, Ok, Err, refl, arith}
-use Rattle.record_frame.specs.Framing.{entries_of, framing}
-use Rattle.record_frame.specs.Answers.{AnswerRule, Output, output_from, state_after}
-use Rattle.record_frame.specs.Outcome.{InputLeaves, OpeningLeaves, Opens}
+use Rattle.std.proofs.Common.{◌≢◌, ℕ, List, ◌++◌, Option, Some, None, IfSome, inl, inr, Result, Ok, Err, refl, arith}
+use Rattle.record_frame.specs.Answers.{AnswerRule, Output}
+use Rattle.record_frame.specs.Outcome.{InputLeaves}
 use Rattle.record_frame.specs.Steps.{BodyLeaves, ReachesState}
-use Rattle.record_frame.specs.Transactions.{has_magic, transactions}
 use Rattle.record_frame.specs.declared.error.RunError.{RunError}
 use Rattle.record_frame.specs.declared.error.RunError.TheVariants.{BrokenInput, Refused, ReadFailed, WriteFailed, OutOfMemory}
-use Rattle.frame_replay.specs.Outcome.{BodyCompletes, BodyOutcome, Completes, Outcome, ReachesEnd, status_of}
+use Rattle.frame_replay.specs.Outcome.{BodyCompletes, Completes, Outcome, ReachesEnd, status_of}
 
 module _ {R : Type 0} (output : Output R) (old new : Option (List ℕ)) (t r : List ℕ) where
   pub outcome_of : (ended : Result (Unit {0}) RunError) → InputLeaves output old new ended t r → Outcome output (status_of ended) old new t r

@@ -1,8 +1,8 @@
 -- What a replay writes after the magics, and what the slot holds.
-use Rattle.std.proofs.Common.{◌≡◌, ◌≢◌, ◌⊎◌, ℕ, Bool, List, [], ◌++◌, Option, MatchOption, Some, None, IfSome, Result, Ok, Err, refl, sym, ap, ap₂, subst, ◌∙◌, arith}
-use Rattle.record_frame.specs.Framing.{after_closing, entries_of, framing}
+use Rattle.std.proofs.Common.{◌≡◌, ◌≢◌, ◌⊎◌, ℕ, Bool, List, [], ◌++◌, Option, MatchOption, Some, None, IfSome, Ok, Err, refl, sym, ap, ap₂, subst, ◌∙◌, arith}
+use Rattle.record_frame.specs.Framing.{entries_of, framing}
 use Rattle.record_frame.specs.Answers.{state_after}
-use Rattle.record_frame.specs.Outcome.{OpeningLeaves, Opens}
+use Rattle.record_frame.specs.Outcome.{OpeningLeaves}
 use Rattle.record_frame.specs.Reading.{Took}
 use Rattle.record_frame.specs.Transactions.{has_magic, transactions}
 use Rattle.record_frame.specs.declared.error.RunError.{RunError}

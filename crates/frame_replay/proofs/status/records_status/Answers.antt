@@ -1,4 +1,4 @@
-use Rattle.std.proofs.Common.{◌≢◌, ◌++◌, [], sym, subst, ◌∙◌}
+use Rattle.std.proofs.Common.{◌++◌, [], sym, ◌∙◌}
 use Rattle.record_frame.specs.Framing.{framing}
 use Rattle.record_frame.specs.Answers.{output_from}
 use Rattle.record_frame.specs.Steps.{BodyLeaves, ReachesState}
