@@ -18,7 +18,7 @@ fn side(rolls: &mut Rolls, more: u8) -> i32 {
 fn rect(rolls: &mut Rolls, more: u8) -> [i32; 4] {
     let (x, y) = (at(rolls), at(rolls));
     let (width, height) = (side(rolls, more), side(rolls, more));
-    [x, y, x + width, y + height]
+    [x, y, x.saturating_add(width), y.saturating_add(height)]
 }
 
 /// A chain of the root's list, or none.
