@@ -2,8 +2,6 @@
 #![tactic(auto)]
 
 #[cfg(test)]
-mod bench;
-#[cfg(test)]
 mod budgets;
 #[cfg(test)]
 mod changes;
@@ -33,5 +31,7 @@ mod rolled_ops;
 mod rolls;
 #[cfg(test)]
 mod scrolls;
+#[cfg(test)]
+mod stage;
 #[cfg(test)]
 mod window;

@@ -1,7 +1,7 @@
 //! More scroll frames than slices of their own.
 
-use crate::bench::{Bench, SHADE, WHITE, on_a_bench};
 use crate::list_bytes::ListBytes;
+use crate::stage::{SHADE, Stage, WHITE, on_a_stage};
 use wr_geom::NoMemory;
 
 /// Nine scroll frames.
@@ -26,32 +26,32 @@ fn shades(list: &mut ListBytes, first: u16) -> Result<(), NoMemory> {
 }
 
 /// Shows the shades of the frames from this one on.
-fn show_shades(bench: &mut Bench, first: u16) -> Result<(), NoMemory> {
-    let mut list = ListBytes::new(bench.alloc());
+fn show_shades(stage: &mut Stage, first: u16) -> Result<(), NoMemory> {
+    let mut list = ListBytes::new(stage.alloc());
     frames(&mut list)?;
     shades(&mut list, first)?;
-    let mut ops = bench.ops(0);
+    let mut ops = stage.ops(0);
     ops.set_view(2, 1, WHITE)?;
     ops.set_list(list)?;
     let payload = ops.finish(true)?;
-    bench.apply(payload.as_slice())?;
+    stage.apply(payload.as_slice())?;
     Ok(())
 }
 
 /// Whether the shades show, of nine frames and of eight.
-fn shows_shades(bench: &mut Bench) -> Result<(), NoMemory> {
-    show_shades(bench, 1)?;
-    let tiles = bench.renderer.tiles().len();
-    bench.expect(tiles == 8);
-    bench.expect_pixel(0, 0, [63, 63, 63, 255]);
-    bench.expect_pixel(1, 0, [2, 2, 2, 255]);
-    show_shades(bench, 2)?;
-    bench.expect_pixel(0, 0, [64, 64, 64, 255]);
-    bench.expect_pixel(1, 0, [4, 4, 4, 255]);
+fn shows_shades(stage: &mut Stage) -> Result<(), NoMemory> {
+    show_shades(stage, 1)?;
+    let tiles = stage.renderer.tiles().len();
+    stage.expect(tiles == 8);
+    stage.expect_pixel(0, 0, [63, 63, 63, 255]);
+    stage.expect_pixel(1, 0, [2, 2, 2, 255]);
+    show_shades(stage, 2)?;
+    stage.expect_pixel(0, 0, [64, 64, 64, 255]);
+    stage.expect_pixel(1, 0, [4, 4, 4, 255]);
     Ok(())
 }
 
 #[test]
 fn the_last_slice_takes_what_is_left(rt: HostRuntime) {
-    assert!(rt; on_a_bench(rt.alloc(), shows_shades) == Ok(true));
+    assert!(rt; on_a_stage(rt.alloc(), shows_shades) == Ok(true));
 }

@@ -1,20 +1,20 @@
 //! Transactions made from a seed.
 
-use crate::bench::Bench;
 use crate::ops::Ops;
 use crate::rolled_lists::{rolled_inner, rolled_root};
 use crate::rolls::Rolls;
+use crate::stage::Stage;
 use std::alloc::AllocError;
 use wr_geom::NoMemory;
 
 /// The first transaction: a view, what is stored, and small tiles.
-pub fn first(bench: &mut Bench) -> Result<(), NoMemory> {
-    let mut ops = bench.ops(0);
+pub fn first(stage: &mut Stage) -> Result<(), NoMemory> {
+    let mut ops = stage.ops(0);
     ops.set_view(90, 80, [30, 30, 30, 60])?;
     ops.set_policy(64, 12)?;
     ops.add_glyph(5, 2, 2, &[200, 255, 10, 0])?;
     ops.add_glyph(6, 4, 1, &[1, 255, 90, 128])?;
-    bench.accept(ops)
+    stage.accept(ops)
 }
 
 /// Another policy: tiles of other sides or another budget.
@@ -67,29 +67,29 @@ fn rolled_image(ops: &mut Ops, rolls: &mut Rolls, is_stored: bool) -> Result<(),
 
 /// Another list.
 fn rolled_list(
-    bench: &Bench,
+    stage: &Stage,
     ops: &mut Ops,
     rolls: &mut Rolls,
     pipeline: u8,
 ) -> Result<(), AllocError> {
     let list = if pipeline == 0 {
-        rolled_root(bench.alloc(), rolls)?
+        rolled_root(stage.alloc(), rolls)?
     } else {
-        rolled_inner(bench.alloc(), rolls)?
+        rolled_inner(stage.alloc(), rolls)?
     };
     ops.set_list(list)
 }
 
 /// An operation of any kind.
 fn rolled_op(
-    bench: &Bench,
+    stage: &Stage,
     ops: &mut Ops,
     rolls: &mut Rolls,
     pipeline: u8,
 ) -> Result<(), AllocError> {
-    let is_stored = bench.renderer.scene().store().image(pipeline, 9).is_some();
+    let is_stored = stage.renderer.scene().store().image(pipeline, 9).is_some();
     match rolls.below(8) {
-        0 => rolled_list(bench, ops, rolls, pipeline),
+        0 => rolled_list(stage, ops, rolls, pipeline),
         1 | 2 => rolled_image(ops, rolls, is_stored),
         3 if pipeline == 0 => rolled_root_op(ops, rolls),
         3 if rolls.below(3) == 0 => ops.remove_pipeline(),
@@ -98,17 +98,17 @@ fn rolled_op(
 }
 
 /// The operations of a transaction: one of a kind, and a move.
-pub fn rolled_ops(bench: &Bench, rolls: &mut Rolls) -> Result<Ops, AllocError> {
+pub fn rolled_ops(stage: &Stage, rolls: &mut Rolls) -> Result<Ops, AllocError> {
     let pipeline = u8::from(rolls.below(3) == 0);
-    let mut ops = bench.ops(pipeline);
-    rolled_op(bench, &mut ops, rolls, pipeline)?;
+    let mut ops = stage.ops(pipeline);
+    rolled_op(stage, &mut ops, rolls, pipeline)?;
     rolled_move(&mut ops, rolls)?;
     Ok(ops)
 }
 
 /// The operations that set a list of a pipeline.
-pub fn rolled_scene(bench: &Bench, rolls: &mut Rolls, pipeline: u8) -> Result<Ops, AllocError> {
-    let mut ops = bench.ops(pipeline);
-    rolled_list(bench, &mut ops, rolls, pipeline)?;
+pub fn rolled_scene(stage: &Stage, rolls: &mut Rolls, pipeline: u8) -> Result<Ops, AllocError> {
+    let mut ops = stage.ops(pipeline);
+    rolled_list(stage, &mut ops, rolls, pipeline)?;
     Ok(ops)
 }

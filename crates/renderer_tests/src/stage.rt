@@ -23,7 +23,7 @@ pub const SHADE: [u8; 4] = [0, 0, 0, 128];
 
 /// A renderer, and whether all was as expected so far.
 #[derive(Drop)]
-pub struct Bench {
+pub struct Stage {
     pub renderer: Renderer,
     pub is_right: bool,
     alloc: Global,
@@ -53,10 +53,10 @@ fn apply_bytes(
     }
 }
 
-impl Bench {
+impl Stage {
     /// Before the first transaction.
-    pub fn new(alloc: Global) -> Result<Bench, NoMemory> {
-        Ok(Bench {
+    pub fn new(alloc: Global) -> Result<Stage, NoMemory> {
+        Ok(Stage {
             renderer: Renderer::new(alloc)?,
             is_right: true,
             alloc,
@@ -130,13 +130,13 @@ impl Bench {
 }
 
 /// Whether all is as a check on a new renderer expects it.
-pub fn on_a_bench<F: FnOnce(&mut Bench) -> Result<(), NoMemory>>(
+pub fn on_a_stage<F: FnOnce(&mut Stage) -> Result<(), NoMemory>>(
     alloc: Global,
     check: F,
 ) -> Result<bool, NoMemory>
     requires { F.IsAlwaysCallable check }
 {
-    let mut bench = Bench::new(alloc)?;
-    check(&mut bench)?;
-    Ok(bench.is_right)
+    let mut stage = Stage::new(alloc)?;
+    check(&mut stage)?;
+    Ok(stage.is_right)
 }
