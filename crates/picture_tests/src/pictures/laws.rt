@@ -29,7 +29,10 @@ fn resources(alloc: Global) -> Result<Vec<u8>, Fail> {
     let (down, aside) = (scroll(1, [0, 3]), scroll(2, [2, 0]));
     let (view, small) = (view([8, 8], WHITE), tiles(64, 255));
     let moved = shift(7, [-1, 1]);
-    sent(alloc, &[&view, &small, &image, &glyph, &down, &aside, &moved])
+    sent(
+        alloc,
+        &[&view, &small, &image, &glyph, &down, &aside, &moved],
+    )
 }
 
 /// The pixels of a frame of these parts.

@@ -49,7 +49,12 @@ fn only_frames_have_statistics(rt: HostRuntime) -> Result<(), Fail> {
     let accepted = sent(rt.alloc(), &[&view([2, 1], WHITE)])?;
     let refused = sent(rt.alloc(), &[&view([0, 1], WHITE)])?;
     let input = file_of(rt.alloc(), &[&accepted, &refused])?;
-    let plain = answered_by(&rt, &["replay"], file_of(rt.alloc(), &[&accepted, &refused])?, 100)?;
+    let plain = answered_by(
+        &rt,
+        &["replay"],
+        file_of(rt.alloc(), &[&accepted, &refused])?,
+        100,
+    )?;
     let told = answered_by(&rt, &["replay", "--stats"], input, 100)?;
     assert_eq!(rt; told, plain);
     Ok(())
@@ -105,7 +110,10 @@ fn an_opacity_opens_a_group(rt: HostRuntime) -> Result<(), Fail> {
         Pop,
     ];
     let parts = list(rt.alloc(), 1, &parts)?;
-    let first = shown(rt.alloc(), &[&view([64, 64], WHITE), &small_tiles(), &parts])?;
+    let first = shown(
+        rt.alloc(),
+        &[&view([64, 64], WHITE), &small_tiles(), &parts],
+    )?;
     let half = shown(rt.alloc(), &[&opacity(1, 128)])?;
     let less = shown(rt.alloc(), &[&opacity(1, 64)])?;
     let whole = shown(rt.alloc(), &[&opacity(1, 255)])?;

@@ -57,8 +57,10 @@ fn records_are_answered_on_a_renderer_at_hand(rt: HostRuntime) -> Result<(), Fai
         let mut sink = MemSink::new(room, 7, Vec::new(rt.alloc()));
         let status = replay_on(rt.alloc(), &mut renderer, true, &mut source, &mut sink);
         assert_eq!(rt; (status, source.left().len()), (0, 0));
-        let mut want = [70, 1, 0, 1, 0, 1, 0, 1, 0, 0, 0, 0, 0, 255, 255, 83, 1, 0, 0, 0]
-            .to_vec(rt.alloc())?;
+        let mut want = [
+            70, 1, 0, 1, 0, 1, 0, 1, 0, 0, 0, 0, 0, 255, 255, 83, 1, 0, 0, 0,
+        ]
+        .to_vec(rt.alloc())?;
         want.extend_from_slice(&drawn.to_le_bytes())?;
         want.push(b'Z')?;
         assert_eq!(rt; sink.written(), want.as_slice());
