@@ -62,4 +62,5 @@ def main():
         print(f"{name}: {1000 * middle / int(sides[3]):.2f} ms a frame, {middle / ours:.2f} times wrreplay's")
 
 
-main()
+if __name__ == "__main__":
+    main()

@@ -43,4 +43,5 @@ def main():
     pathlib.Path(out + ".solids").write_bytes(plain)
 
 
-main()
+if __name__ == "__main__":
+    main()
