@@ -3,6 +3,7 @@
 use frame_replay::run;
 use frames::frame_at;
 use parts::Colour;
+use std::alloc::Global;
 use std::process::Abort;
 use std::test::Fail;
 use transactions::{Answer, answered, file_of};
@@ -25,6 +26,18 @@ mod slices;
 mod statistics;
 mod transactions;
 
+/// The status of a run. The renderer that it leaves is given up.
+fn status_of(
+    alloc: Global,
+    words: &[String],
+    source: &mut MemSource,
+    sink: &mut MemSink,
+    notes: &mut MemSink,
+) -> u8 {
+    let mut slot = None;
+    run(alloc, words, source, sink, notes, &mut slot)
+}
+
 /// What a command writes for an input, into this much room. The run has to end well.
 fn answered_by(
     rt: &(impl Abort + AllocGlobal),
@@ -41,15 +54,7 @@ fn answered_by(
     let mut sink = MemSink::new(room, 1 << 20, Vec::new(rt.alloc()));
     let room = vec![in rt.alloc(); 0; 256]?;
     let mut notes = MemSink::new(room, 1 << 20, Vec::new(rt.alloc()));
-    let mut slot = None;
-    let status = run(
-        rt.alloc(),
-        &words,
-        &mut source,
-        &mut sink,
-        &mut notes,
-        &mut slot,
-    );
+    let status = status_of(rt.alloc(), &words, &mut source, &mut sink, &mut notes);
     assert_eq!(rt; status, 0);
     Ok(sink.written().to_vec(rt.alloc())?)
 }

@@ -1,5 +1,5 @@
 -- A frame that is put together, and what it took.
-use Rattle.std.proofs.Common.{◌≡◌, ◌≤◌, ◌<◌, ℕ, pos, List, take, Some, sym, ap, subst, ◌∙◌, arith}
+use Rattle.std.proofs.Common.{◌≡◌, ◌≤◌, ◌<◌, ℕ, pos, List, take, Option, Some, None, sym, ap, subst, ◌∙◌, arith}
 use Rattle.std.proofs.lemmas.Int.{ints}
 use Rattle.wr_geom.proofs.Points.{holds_it}
 use Rattle.image_store.specs.Laws.{IsUpTo}
@@ -17,7 +17,7 @@ use Rattle.scene_state.specs.SceneModel.{SceneModel}
 use Rattle.scene_slices.specs.Picture.{PaintThePicture, view_rect}
 use Rattle.renderer.specs.declared.answer.Report.{Report}
 use Rattle.renderer.specs.Drops.{sides_of}
-use Rattle.renderer.specs.Frames.{AreSides, IsFrameOf}
+use Rattle.renderer.specs.Frames.{AreSides, IsFrameOf, IsThere, ShowScene}
 use Rattle.renderer.specs.Kept.{IsFresh}
 use Rattle.renderer.specs.RendererModel.{RendererModel}
 use Rattle.renderer.specs.Showing.{IsDrawn, IsFinished, IsShown}
@@ -56,6 +56,16 @@ taken_fresh s last old new stored sound most h =
       sound = subst (AreSound (sides_of s.policy) last s.store) (sym h) (sound_taken (sides_of s.policy) last s.store s.policy.budget (kept_of old) sound);
       few = omega (arith, few, most);
     }
+
+-- a frame of a scene shows it
+pub shown_there : (s : SceneModel) (n : ℕ) (o : Option FrameModel) → IsThere (IsFrameOf s n) o → IsThere (λ f. ShowScene s f.planes) o
+shown_there s n None h = absurd h
+shown_there s n (Some f) h = h.shows
+
+-- and what shows it is its frame, where the counts are the same
+pub frame_there : (s : SceneModel) (n : ℕ) (o : Option FrameModel) → IsThere (λ f. ShowScene s f.planes) o → IsThere (λ f. f.opened ≡ Some n) o → IsThere (IsFrameOf s n) o
+frame_there s n None h e = absurd h
+frame_there s n (Some f) h e = record { shows = h; opened = e }
 
 -- what was drawn and then put together was shown
 pub shown_by : (next : SceneModel) (old mid new : RendererModel) (drawn : ℕ) (report : Report) → IsDrawn next old mid drawn → IsFinished next mid new drawn report → IsShown next old new report

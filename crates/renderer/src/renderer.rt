@@ -25,7 +25,7 @@ pub struct Renderer {
 
 impl Model for Renderer {
     ghost use Rattle.renderer.specs.RendererModel.{RendererModel, renderer_code};
-    ghost use Rattle.renderer.specs.PartsModel.{HasScratch, IsFreshIn, model_of};
+    ghost use Rattle.renderer.specs.PartsModel.{HasScratch, IsCurrentIn, IsFreshIn, model_of};
 
     ghost Value = { RendererModel };
 
@@ -33,7 +33,7 @@ impl Model for Renderer {
 
     ghost view = { λ s. model_of s.parts };
 
-    ghost invariant = { λ s. IsFreshIn s.parts × HasScratch s.parts };
+    ghost invariant = { λ s. IsFreshIn s.parts × (IsCurrentIn s.parts × HasScratch s.parts) };
 }
 
 /// What holds of every renderer, for whoever reasons about it. It does nothing.

@@ -2,6 +2,7 @@
 
 use frame_replay::run;
 use renderer::Renderer;
+use std::alloc::Global;
 use std::test::Fail;
 use wr_io::{MemSink, MemSource};
 
@@ -54,6 +55,19 @@ fn drawn_by(slot: &Option<Renderer>) -> Option<u64> {
     }
 }
 
+/// The status of a run, and how many pixels the renderer drew that it leaves.
+fn run_on(
+    alloc: Global,
+    words: &[String],
+    source: &mut MemSource,
+    sink: &mut MemSink,
+    notes: &mut MemSink,
+) -> (u8, Option<u64>) {
+    let mut slot = None;
+    let status = run(alloc, words, source, sink, notes, &mut slot);
+    (status, drawn_by(&slot))
+}
+
 /// A run with these words over an input.
 fn ran_over(rt: &HostRuntime, words: &[&str], input: &[u8], ends: &Ends<'_>) -> Result<Ran, Fail> {
     let most = ends.most.max(1);
@@ -67,21 +81,13 @@ fn ran_over(rt: &HostRuntime, words: &[&str], input: &[u8], ends: &Ends<'_>) -> 
     let mut sink = MemSink::new(room, most, ends.sink_fails.to_vec(rt.alloc())?);
     let room = vec![in rt.alloc(); 0; 256]?;
     let mut notes = MemSink::new(room, most, ends.notes_fail.to_vec(rt.alloc())?);
-    let mut slot = None;
-    let status = run(
-        rt.alloc(),
-        &given,
-        &mut source,
-        &mut sink,
-        &mut notes,
-        &mut slot,
-    );
+    let (status, drawn) = run_on(rt.alloc(), &given, &mut source, &mut sink, &mut notes);
     Ok(Ran {
         status,
         out: sink.written().to_vec(rt.alloc())?,
         note: notes.written().to_vec(rt.alloc())?,
         left: source.left().len(),
-        drawn: drawn_by(&slot),
+        drawn,
     })
 }
 

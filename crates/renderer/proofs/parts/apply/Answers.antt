@@ -8,7 +8,7 @@ use Rattle.renderer.specs.Drops.{tiles_left}
 use Rattle.renderer.specs.Outcome.{Applies}
 use Rattle.renderer.specs.PartsModel.{model_of}
 use Rattle.renderer.specs.RendererModel.{RendererModel}
-use Rattle.renderer.proofs.Applying.{unfinished_by}
+use Rattle.renderer.proofs.Applying.{same_shown, unfinished_by}
 use Rattle.renderer.proofs.Readying.{ready, stay_by}
 use Rattle.renderer.proofs.parts.apply.Goals as goal
 
@@ -49,3 +49,9 @@ returns-in_err-report-clause-applies c =
     let is : c.from_residual-in_err-report.result ≡ Err errors.NoMemory = search rules in
     subst (λ (r : Result Answer ApplyError). Applies t old new r) (sym is)
     (unfinished_by t old mid new next c.in_ok-next.ensures.made framed left c.drop_tiles.ensures.opened counts.least counts.most refl refl c.in_err-report.ensures.err)
+
+pub returns-then-not-frame-clause-current : goal.returns-then-not-frame-clause-current
+returns-then-not-frame-clause-current c = record {
+  current = λ e. same_shown c.args.txn.now c.args.parts.now.scene c.in_ok-next.next c.args.parts.now.gens c.next.new.gens c.args.parts.now.frame
+      (c.changes_nothing-is_same.ensures e).1 c.in_ok-next.ensures.made (c.requires.current.current (c.changes_nothing-is_same.ensures e).0);
+}

@@ -1,7 +1,5 @@
-use Rattle.std.proofs.Common.{ℕ, pos, List, length, take, refl, sym, ap, subst, ◌∙◌}
+use Rattle.std.proofs.Common.{pos, List, sym, ap, subst, ◌∙◌}
 use Rattle.std.specs.Prelude.{All}
-use Rattle.tile_store.specs.StoreModel.{StoreModel}
-use Rattle.tile_records.specs.declared.record.TileRecord.{TileRecord}
 use Rattle.picture_slices.specs.declared.slice.Slice.{Slice}
 use Rattle.tile_compositor.specs.Composition.{IsPlacedIn, composed}
 use Rattle.tile_compositor.specs.FrameModel.{FrameModel}
@@ -9,12 +7,11 @@ use Rattle.tile_compositor.specs.declared.placed.Placed.{Placed}
 use Rattle.kept_tiles.specs.Showing.{AreShown}
 use Rattle.kept_tiles.specs.Tiles.{kept_of}
 use Rattle.kept_tiles.specs.Work.{frame_tiles}
-use Rattle.scene_state.specs.declared.policy.Policy.{Policy}
 use Rattle.scene_slices.specs.Picture.{view_rect}
 use Rattle.renderer.specs.Drops.{sides_of}
-use Rattle.renderer.specs.Frames.{AreSides, IsFrameOf, IsThere}
+use Rattle.renderer.specs.Frames.{AreSides, IsThere}
 use Rattle.renderer.proofs.DrawnTiles.{sound_placed}
-use Rattle.renderer.proofs.Finishing.{frame_shows, taken_fresh}
+use Rattle.renderer.proofs.Finishing.{frame_shows}
 use Rattle.renderer.proofs.Views.{tile_sides}
 use Rattle.renderer.proofs.parts.finish.Goals as goal
 
@@ -31,12 +28,11 @@ compose_frame-requires-clause-placed c =
     let placed = c.showing_laws.ensures.placed next.view.0 next.view.1 planes c.args.prepared.now.slices sides.width sides.height c.requires.prepared.slices.slices in
     subst (λ (l : List Placed). All (IsPlacedIn planes) l) (sym (c.as_slice.ensures ∙ c.requires.prepared.placed)) placed
 
-pub returns-clause-finished : goal.returns-clause-finished
-returns-clause-finished c =
+pub settle-requires-clause-frame : goal.settle-requires-clause-frame
+settle-requires-clause-frame c =
     let next = c.args.next in
     let last = c.args.parts.now.gens in
     let old = c.args.parts.now.kept in
-    let new = c.trim.new.self in
     let sides = sides_of next.policy in
     let slices = c.args.prepared.now.slices in
     let is = c.know_scene.ensures in
@@ -45,20 +41,8 @@ returns-clause-finished c =
     let planes = c.frame_of-frame.result.planes in
     let blank : AreSides next.view.0 next.view.1 planes = subst (IsThere (λ (f : FrameModel). AreSides next.view.0 next.view.1 f.planes)) (sym c.frame_of-frame.ensures) c.requires.frame in
     let list = c.as_slice.ensures ∙ c.requires.prepared.placed in
-    let frame =
     frame_shows next old slices planes c.compose_frame.new.frame c.requires.prepared.slices.picture
     (λ x y. c.frame_laws.ensures.composed sides (view_rect next) next.store old slices (pos x) (pos y) next.clear (tile_sides next is) is.store c.requires.prepared.slices.slices shown placed)
     blank c.compose_frame.ensures.sides
     (λ x y hx hy. c.compose_frame.ensures.value x y hx hy ∙ ap (λ (l : List Placed). composed sides old.store.tiles l (pos x) (pos y) next.clear) list)
-    c.compose_frame.ensures.opened in
-    let kept = c.trim.ensures.kept ∙ ap (λ (p : Policy). take p.budget (kept_of old)) c.policy.ensures in
-    record {
-      scene = refl;
-      last = refl;
-      kept = kept;
-      opened = c.trim.ensures.opened;
-      frame = subst (λ (n : ℕ). IsFrameOf next n c.compose_frame.new.frame) (sym c.trim.ensures.opened) frame;
-      tiles = c.len.ensures.value ∙ ap (λ (s : StoreModel TileRecord). length s.tiles) c.tiles.ensures;
-      drawn = refl;
-      fresh = taken_fresh next last old new c.requires.stored c.requires.sound is.ranges.policy.tiles.at_most kept;
-    }
+    c.compose_frame.ensures.opened
